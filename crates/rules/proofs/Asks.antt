@@ -1,0 +1,83 @@
+-- What a rule may ask for bounds what it reads; a rule that never refuses adds nothing to a refusal. Assumes nothing.
+use Prim.Native.Nat.{ℕ, zero, suc}
+use mathlib.Core.Path.{_≡_, refl, sym, ap, subst}
+use mathlib.Core.Bool.{Bool, true, false, cond}
+use mathlib.Core.List.{List, [], _∷_, List·Memᴰ, List·Memᴰ·cases-cons, List·Memᴰ·not-nil}
+use mathlib.Core.Logic.{⊎-elim}
+use native.Mathlib.Omega.{arith}
+use Rattle.rules.specs.Rule.{Rule, done, stop, ask, Outcome, ok, refused, run, reads, _>>=_, within}
+use Rattle.rules.specs.Each.{each, eachOf}
+use Rattle.rules.specs.Asks.{Asks, Never}
+
+module _ {R Q A : Type 0} (Allowed : Q → Type 0) (memory : Q → ℕ) where
+  -- what is read is allowed
+  pub asks-reads : (rule : Rule R Q A) → Asks Allowed rule → (cell : Q) → List·Memᴰ cell (reads memory rule) → Allowed cell
+  asks-reads (done answer) asks cell here = absurd (List·Memᴰ·not-nil here)
+  asks-reads (stop refusal) asks cell here = absurd (List·Memᴰ·not-nil here)
+  asks-reads (ask asked on) asks cell here =
+      ⊎-elim
+      (λ same. subst Allowed (sym same) (asks .0))
+      (λ later. asks-reads (on (memory asked)) (asks .1 (memory asked)) cell later)
+      (List·Memᴰ·cases-cons here)
+
+module _ {R Q A : Type 0} (memory : Q → ℕ) where
+  pub never-refused : (rule : Rule R Q A) {refusal : R} → Never rule → run memory rule ≡ refused refusal → ⊥
+  never-refused (done answer) never e = let z : _≡_ {A = ℕ} 0 1 = cc in omega arith
+  never-refused (stop refusal) never e = never
+  never-refused (ask cell on) never e = never-refused (on (memory cell)) (never (memory cell)) e
+
+module _ {R Q A B : Type 0} where
+  pub asks-then : (Allowed : Q → Type 0) (rule : Rule R Q A) (after : A → Rule R Q B)
+      → Asks Allowed rule → ((a : A) → Asks Allowed (after a)) → Asks Allowed (rule >>= after)
+  asks-then Allowed (done answer) after asks asks-after = asks-after answer
+  asks-then Allowed (stop refusal) after asks asks-after = tt
+  asks-then Allowed (ask cell on) after asks asks-after = (asks .0, λ held. asks-then Allowed (on held) after (asks .1 held) asks-after)
+
+  pub never-then : (rule : Rule R Q A) (after : A → Rule R Q B) → Never rule → ((a : A) → Never (after a)) → Never (rule >>= after)
+  never-then (done answer) after never never-after = never-after answer
+  never-then (stop refusal) after never never-after = never
+  never-then (ask cell on) after never never-after = λ held. never-then (on held) after (never held) never-after
+
+  -- a rule, and then one that never refuses: where the whole is refused, it has read what the first one reads
+  pub refused-reads : (memory : Q → ℕ) (rule : Rule R Q A) (after : A → Rule R Q B) → ((a : A) → Never (after a))
+      → {refusal : R} → run memory (rule >>= after) ≡ refused refusal → reads memory (rule >>= after) ≡ reads memory rule
+  refused-reads memory (done answer) after never e = absurd (never-refused memory (after answer) (never answer) e)
+  refused-reads memory (stop refusal) after never e = refl
+  refused-reads memory (ask cell on) after never e =
+      ap (λ (cells : List Q). cell ∷ cells) (refused-reads memory (on (memory cell)) after never e)
+
+module _ {R Q A : Type 0} where
+  pub asks-cond : (Allowed : Q → Type 0) (test : Bool) (yes-rule no-rule : Rule R Q A)
+      → Asks Allowed yes-rule → Asks Allowed no-rule → Asks Allowed (cond test yes-rule no-rule)
+  asks-cond Allowed true yes-rule no-rule asks-yes asks-no = asks-yes
+  asks-cond Allowed false yes-rule no-rule asks-yes asks-no = asks-no
+
+  pub never-cond : (test : Bool) (yes-rule no-rule : Rule R Q A) → Never yes-rule → Never no-rule → Never (cond test yes-rule no-rule)
+  never-cond true yes-rule no-rule never-yes never-no = never-yes
+  never-cond false yes-rule no-rule never-yes never-no = never-no
+
+  -- a rule whose every cell is allowed
+  pub asks-any : (Allowed : Q → Type 0) → ((cell : Q) → Allowed cell) → (rule : Rule R Q A) → Asks Allowed rule
+  asks-any Allowed all (done answer) = tt
+  asks-any Allowed all (stop refusal) = tt
+  asks-any Allowed all (ask cell on) = (all cell, λ held. asks-any Allowed all (on held))
+
+  pub asks-each : (Allowed : Q → Type 0) (rule : ℕ → Rule R Q A) → ((x : ℕ) → Asks Allowed (rule x))
+      → (count from : ℕ) → Asks Allowed (each rule count from)
+  asks-each Allowed rule asks zero from = tt
+  asks-each Allowed rule asks (suc count) from =
+      asks-then Allowed (rule from) _ (asks from)
+      (λ a. asks-then Allowed (each rule count (suc from)) _ (asks-each Allowed rule asks count (suc from)) (λ l. tt))
+
+  pub never-each-of : {B : Type 0} (rule : B → ℕ → Rule R Q A) → ((b : B) (x : ℕ) → Never (rule b x))
+      → (found : List B) (from : ℕ) → Never (eachOf rule found from)
+  never-each-of rule never [] from = tt
+  never-each-of rule never (b ∷ others) from =
+      never-then (rule b from) _ (never b from)
+      (λ a. never-then (eachOf rule others (suc from)) _ (never-each-of rule never others (suc from)) (λ l. tt))
+
+pub asks-within : {R S P Q A : Type 0} (Allowed : Q → Type 0) (name : R → S) (into : P → Q) (rule : Rule R P A)
+    → Asks (λ cell. Allowed (into cell)) rule → Asks Allowed (within name into rule)
+asks-within Allowed name into (done answer) asks = tt
+asks-within Allowed name into (stop refusal) asks = tt
+asks-within Allowed name into (ask cell on) asks = (asks .0, λ held. asks-within Allowed name into (on held) (asks .1 held))

@@ -1,0 +1,115 @@
+-- The search for the first cell that passes: the laws of a loop that makes it, and what its outcome tells of the cells. Assumes nothing.
+use Prim.Native.Nat.{ℕ, zero, suc, _+_, _-_, _≤_, _<_}
+use mathlib.Core.Path.{_≡_, refl, sym, ap, _∙_}
+use mathlib.Core.Bool.{Bool, true, false, cond}
+use mathlib.Core.List.{List, [], _∷_}
+use mathlib.Core.Logic.{⊎-elim}
+use native.Mathlib.Omega.{arith}
+use native.Mathlib.Nat.{sub-zero, sub-self, eq-or-lt-of-le}
+use native.Mathlib.Numerals.{add-one}
+use Rattle.rules.specs.Rule.{Rule, done, ask, Outcome, ok, refused, run, reads}
+use Rattle.rules.specs.First.{firstFrom, first}
+use Rattle.rules.specs.Each.{values}
+use Rattle.rules.proofs.Then.{run-cond, reads-cond}
+
+module _ {R Q : Type 0} (missing : R) (cell : ℕ → Q) (passes : ℕ → Bool) (memory : Q → ℕ) where
+  step : (count from : ℕ)
+      → run memory (firstFrom missing cell passes (suc count) from)
+      ≡ cond (passes (memory (cell from))) (ok from) (run memory (firstFrom missing cell passes count (suc from)))
+  step count from = run-cond memory (passes (memory (cell from))) (done from) (firstFrom missing cell passes count (suc from))
+
+  one-more : (count at : ℕ) → at < count → count - at ≡ suc (count - (at + 1))
+  one-more count at h = omega arith
+
+  none-left : (count at : ℕ) → count ≤ at → count - at ≡ 0
+  none-left count at h = omega arith
+
+  -- a loop that goes through the cells is at `at` of `count`, and none before `at` passed
+  pub record Seeking (count at : ℕ) : Type 0 where
+    pub in-range : at ≤ count
+    pub rest : run memory (firstFrom missing cell passes (count - at) at) ≡ run memory (first missing cell passes count)
+
+  pub seek-start : (count : ℕ) → Seeking count 0
+  seek-start count = record { in-range = omega arith; rest = rw sub-zero }
+
+  -- `held` is what the cell at `at` holds
+  module _ {count at held : ℕ} (here : Seeking count at) (more : at < count) (e : held ≡ memory (cell at)) where
+    pub seek-next : passes held ≡ false → Seeking count (at + 1)
+    seek-next test = record {
+      in-range = omega arith;
+      rest = rw (add-one at) (rw (one-more count at more, step (count - (at + 1)) at, ← e, test, add-one at) at (here .rest));
+    }
+
+    pub seek-found : passes held ≡ true → run memory (first missing cell passes count) ≡ ok at
+    seek-found test = sym (rw (one-more count at more, step (count - (at + 1)) at, ← e, test) at (here .rest))
+
+  pub seek-over : {count at : ℕ} → Seeking count at → count ≤ at → run memory (first missing cell passes count) ≡ refused missing
+  seek-over {count} {at} here all = sym (rw (none-left count at all) at (here .rest))
+
+  -- what it tells that the search from `from` on answers `at`
+  pub record Found (count from at : ℕ) : Type 0 where
+    pub after : from ≤ at
+    pub below : at < from + count
+    pub passed : passes (memory (cell at)) ≡ true
+    pub failed : (i : ℕ) → from ≤ i → i < at → passes (memory (cell i)) ≡ false
+    pub read : reads memory (firstFrom missing cell passes count from) ≡ values cell (suc (at - from)) from
+
+  reads-step : (count from : ℕ) (test : Bool) → passes (memory (cell from)) ≡ test
+      → reads memory (firstFrom missing cell passes (suc count) from)
+      ≡ cell from ∷ cond test [] (reads memory (firstFrom missing cell passes count (suc from)))
+  reads-step count from test e =
+      ap (λ (cells : List Q). cell from ∷ cells)
+      (reads-cond memory (passes (memory (cell from))) (done from) (firstFrom missing cell passes count (suc from))
+      ∙ ap (λ (t : Bool). cond t [] (reads memory (firstFrom missing cell passes count (suc from)))) e)
+
+  found-here : (count from : ℕ) {at : ℕ} → passes (memory (cell from)) ≡ true → from ≡ at → Found (suc count) from at
+  found-here count from {at} test e = record {
+    after = omega arith;
+    below = omega arith;
+    passed = rw (← e) test;
+    failed = λ i low high. absurd (omega arith);
+    read = rw (← e, sub-self) (reads-step count from true test);
+  }
+
+  found-later : (count from : ℕ) {at : ℕ} → passes (memory (cell from)) ≡ false → Found count (suc from) at → Found (suc count) from at
+  found-later count from {at} test later =
+      let deep : at - from ≡ suc (at - suc from) = omega (arith, later .after) in
+      record {
+        after = omega (arith, later .after);
+        below = omega (arith, later .below);
+        passed = later .passed;
+        failed = λ i low high. ⊎-elim (λ same. rw same at test) (λ above. later .failed i above high) (eq-or-lt-of-le low);
+        read = rw deep (reads-step count from false test ∙ ap (λ (cells : List Q). cell from ∷ cells) (later .read));
+      }
+
+  by-test : (count from : ℕ) {at : ℕ} (test : Bool) → passes (memory (cell from)) ≡ test
+      → cond test (ok from) (run memory (firstFrom missing cell passes count (suc from))) ≡ ok at
+      → (run memory (firstFrom missing cell passes count (suc from)) ≡ ok at → Found count (suc from) at) → Found (suc count) from at
+  by-test count from {at} true test e later = found-here count from test (cc)
+  by-test count from {at} false test e later = found-later count from test (later e)
+
+  pub found-from : (count from : ℕ) {at : ℕ} → run memory (firstFrom missing cell passes count from) ≡ ok at → Found count from at
+  found-from zero from {at} e = let z : _≡_ {A = ℕ} 0 1 = cc in absurd (omega arith)
+  found-from (suc count) from {at} e =
+      by-test count from (passes (memory (cell from))) refl (sym (step count from) ∙ e) (found-from count (suc from))
+
+  -- what it tells that the search from `from` on finds nothing
+  pub record Missing (count from : ℕ) : Type 0 where
+    pub failed : (i : ℕ) → from ≤ i → i < from + count → passes (memory (cell i)) ≡ false
+    pub read : reads memory (firstFrom missing cell passes count from) ≡ values cell count from
+
+  missing-by : (count from : ℕ) {refusal : R} (test : Bool) → passes (memory (cell from)) ≡ test
+      → cond test (ok from) (run memory (firstFrom missing cell passes count (suc from))) ≡ refused refusal
+      → (run memory (firstFrom missing cell passes count (suc from)) ≡ refused refusal → Missing count (suc from)) → Missing (suc count) from
+  missing-by count from {refusal} true test e later = let z : _≡_ {A = ℕ} 0 1 = cc in absurd (omega arith)
+  missing-by count from {refusal} false test e later =
+      let rest : Missing count (suc from) = later e in
+      record {
+        failed = λ i low high. ⊎-elim (λ same. rw same at test) (λ above. rest .failed i above (omega arith)) (eq-or-lt-of-le low);
+        read = reads-step count from false test ∙ ap (λ (cells : List Q). cell from ∷ cells) (rest .read);
+      }
+
+  pub missing-from : (count from : ℕ) {refusal : R} → run memory (firstFrom missing cell passes count from) ≡ refused refusal → Missing count from
+  missing-from zero from e = record { failed = λ i low high. absurd (omega arith); read = refl }
+  missing-from (suc count) from e =
+      missing-by count from (passes (memory (cell from))) refl (sym (step count from) ∙ e) (missing-from count (suc from))

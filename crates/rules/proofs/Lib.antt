@@ -1,0 +1,6 @@
+pub mod Rests
+pub mod Then
+pub mod First
+pub mod Each
+pub mod Fill
+pub mod Asks

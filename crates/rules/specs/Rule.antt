@@ -1,0 +1,77 @@
+-- A rule answers, refuses, or asks what a cell holds and goes on by that.
+-- R are the refusals that it can give, Q the cells that it can ask for, A its answers.
+use Prim.Native.Nat.{ℕ}
+use mathlib.Core.Path.{_≡_}
+use mathlib.Core.List.{List, [], _∷_, List·Memᴰ}
+
+pub data Rule (R Q A : Type 0) : Type 0 where
+  done : A → Rule R Q A
+  stop : R → Rule R Q A
+  ask : Q → (ℕ → Rule R Q A) → Rule R Q A
+
+-- what comes of a rule: its answer or its refusal
+pub data Outcome (R A : Type 0) : Type 0 where
+  ok : A → Outcome R A
+  refused : R → Outcome R A
+
+module _ {R Q A : Type 0} where
+  -- the outcome where the cells hold what the memory says
+  abbrev pub run : (Q → ℕ) → Rule R Q A → Outcome R A
+  run memory (done answer) = ok answer
+  run memory (stop refusal) = refused refusal
+  run memory (ask cell next) = run memory (next (memory cell))
+
+  -- the cells asked for, in order
+  abbrev pub reads : (Q → ℕ) → Rule R Q A → List Q
+  reads memory (done answer) = []
+  reads memory (stop refusal) = []
+  reads memory (ask cell next) = cell ∷ reads memory (next (memory cell))
+
+-- two memories hold the same in each of these cells
+abbrev pub Agree : {Q : Type 0} → (Q → ℕ) → (Q → ℕ) → List Q → Type 0
+Agree {Q} memory other cells = (cell : Q) → List·Memᴰ cell cells → memory cell ≡ other cell
+
+-- the rule that answers what a cell holds
+abbrev pub get : {R Q : Type 0} → Q → Rule R Q ℕ
+get cell = ask cell done
+
+module _ {R Q A B : Type 0} where
+  infixl 20 _>>=_
+  -- one rule and then another, which goes by the answer of the first; a refusal ends both. `do` stands for it
+  abbrev pub _>>=_ : Rule R Q A → (A → Rule R Q B) → Rule R Q B
+  done answer >>= after = after answer
+  stop refusal >>= after = stop refusal
+  ask cell next >>= after = ask cell (λ held. next held >>= after)
+
+module _ {R S P Q A : Type 0} (name : R → S) (into : P → Q) where
+  -- a rule over few refusals and few cells, taken into more of both
+  abbrev pub within : Rule R P A → Rule S Q A
+  within (done answer) = done answer
+  within (stop refusal) = stop (name refusal)
+  within (ask cell next) = ask (into cell) (λ held. within (next held))
+
+module _ {R A : Type 0} where
+  -- what follows an answer; a refusal stays
+  abbrev pub next : {B : Type 0} → Outcome R A → (A → Outcome R B) → Outcome R B
+  next (ok answer) after = after answer
+  next (refused refusal) after = refused refusal
+
+  -- what an answer leads to read; a refusal reads nothing more
+  abbrev pub nextReads : {Q : Type 0} → Outcome R A → (A → List Q) → List Q
+  nextReads (ok answer) after = after answer
+  nextReads (refused refusal) after = []
+
+  -- an outcome under other names for its refusals
+  abbrev pub renamed : {S : Type 0} → (R → S) → Outcome R A → Outcome S A
+  renamed name (ok answer) = ok answer
+  renamed name (refused refusal) = refused (name refusal)
+
+  -- an outcome without its answer: whether it was refused, and how
+  abbrev pub verdict : Outcome R A → Outcome R (Unit {0})
+  verdict (ok answer) = ok tt
+  verdict (refused refusal) = refused refusal
+
+  -- the answer, or another value where there is none
+  abbrev pub answerOr : A → Outcome R A → A
+  answerOr other (ok answer) = answer
+  answerOr other (refused refusal) = other

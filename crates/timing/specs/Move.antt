@@ -1,0 +1,25 @@
+-- The move from one position to the next.
+use Prim.Native.Nat.{ℕ, _+_}
+use mathlib.Core.Bool.{cond}
+use lib.Dec.{leb}
+use Rattle.words.specs.Field.{field}
+use Rattle.timing.specs.declared.Position.{Position}
+
+-- control word 1 has the total width less 1 in 11..0 and the total lines less 1 in 27..16
+abbrev pub totalWidth : ℕ → ℕ
+totalWidth word = field word 11 0 + 1
+
+abbrev pub totalLines : ℕ → ℕ
+totalLines word = field word 27 16 + 1
+
+-- p + 1, or 0 where p + 1 ≥ total
+unfoldable pub onwards : ℕ → ℕ → ℕ
+onwards total p = cond (leb total (p + 1)) 0 (p + 1)
+
+-- x moves on; y does, likewise, where x has come to the total width
+unfoldable pub nextPosition : ℕ → Position → Position
+nextPosition word at =
+    record {
+      x = onwards (totalWidth word) (at .x);
+      y = cond (leb (totalWidth word) (at .x + 1)) (onwards (totalLines word) (at .y)) (at .y);
+    }

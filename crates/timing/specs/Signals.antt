@@ -1,0 +1,21 @@
+-- The signals of a position: horizontal and vertical sync, and blank.
+use Prim.Native.Nat.{ℕ}
+use mathlib.Core.Bool.{Bool, _||_}
+use Rattle.words.specs.Field.{field}
+use Rattle.timing.specs.Window.{inWindow}
+use Rattle.timing.specs.declared.Position.{Position}
+use Rattle.timing.specs.declared.Windows.{Windows}
+use Rattle.timing.specs.declared.Signals.{Signals}
+
+-- a control word that holds a window, on in 11..0 and off in 27..16
+unfoldable pub holds : ℕ → ℕ → Bool
+holds word p = inWindow (field word 11 0) (field word 27 16) p
+
+-- horizontal windows go by x and vertical ones by y; blank is either
+unfoldable pub signalsAt : Windows → Position → Signals
+signalsAt windows at =
+    record {
+      hsync = holds (windows .hsync) (at .x);
+      vsync = holds (windows .vsync) (at .y);
+      blank = holds (windows .hblank) (at .x) || holds (windows .vblank) (at .y);
+    }

@@ -1,0 +1,24 @@
+-- Big-endian numbers: one in front of another, and how large they get. Assumes nothing.
+use mathlib.Core.Path.{_≡_, refl, sym, ap, _∙_}
+use Prim.Native.Nat.{ℕ, zero, suc, _+_, _*_, _^_, _<_}
+use mathlib.Core.List.{List}
+use native.Mathlib.Nat.{add-zero, zero-add, zero-mul, mul-one, add-suc, add-assoc, mul-assoc, add-mul, pow-suc}
+use native.Mathlib.Omega.{arith}
+use lib.Arith.{digits-lt}
+use lib.Dec.{lit<}
+use lib.ListN.{getD}
+use Rattle.words.specs.Bytes.{bigEndian}
+
+-- the bytes of one number, and then those of another
+pub big-endian-add : (bytes : List ℕ) (at m n : ℕ) → bigEndian bytes at (m + n) ≡ bigEndian bytes at m * 256 ^ n + bigEndian bytes (at + m) n
+big-endian-add bytes at m zero = simp (mul-one, add-zero)
+big-endian-add bytes at m (suc n) =
+    rw (add-suc, pow-suc, big-endian-add bytes at m n) (simp (add-mul, mul-assoc, add-assoc))
+
+-- one byte is itself
+pub big-endian-one : (bytes : List ℕ) (at : ℕ) → bigEndian bytes at 1 ≡ getD bytes at 0
+big-endian-one bytes at = simp (zero-add, add-zero)
+
+pub big-endian-lt : (bytes : List ℕ) (at count : ℕ) → ((i : ℕ) → getD bytes i 0 < 256) → bigEndian bytes at count < 256 ^ count
+big-endian-lt bytes at zero small = lit< tt
+big-endian-lt bytes at (suc count) small = rw pow-suc (digits-lt (big-endian-lt bytes at count small) (small (at + count)))

@@ -1,0 +1,22 @@
+-- Channels put together and taken apart again: nothing is lost. Assumes nothing.
+use mathlib.Core.Path.{_≡_, sym, ap, _∙_}
+use Prim.Native.Nat.{ℕ, _+_, _*_, _/_, _%_, _^_, _<_}
+use native.Mathlib.Nat.{div-one, add-assoc}
+use native.Mathlib.Omega.{arith}
+use lib.Pow.{mod-pow-add}
+use Rattle.words.specs.Field.{field}
+use Rattle.words.specs.Channels.{channelsOf, wordOf}
+use Rattle.words.specs.declared.Rgb.{Rgb}
+
+-- the word of a word's channels is the word without its top byte
+pub word-of-channels : (word : ℕ) → wordOf (channelsOf word) ≡ word % 2 ^ 24
+word-of-channels word =
+    rw (div-one, add-assoc) (sym (mod-pow-add word 8 16 ∙ ap (λ (low : ℕ). field word 23 16 * 2 ^ 16 + low) (mod-pow-add word 8 8)))
+
+-- the channels of three channels' word are those channels
+pub channels-of-word : (colour : Rgb) → colour .red < 2 ^ 8 → colour .green < 2 ^ 8 → colour .blue < 2 ^ 8 → channelsOf (wordOf colour) ≡ colour
+channels-of-word colour red green blue =
+    let r : field (wordOf colour) 23 16 ≡ colour .red = omega arith in
+    let g : field (wordOf colour) 15 8 ≡ colour .green = omega arith in
+    let b : field (wordOf colour) 7 0 ≡ colour .blue = omega arith in
+    rw (r, g, b)
