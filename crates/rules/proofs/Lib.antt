@@ -4,3 +4,4 @@ pub mod First
 pub mod Each
 pub mod Fill
 pub mod Asks
+pub mod Unique

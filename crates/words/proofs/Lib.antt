@@ -1,3 +1,4 @@
 pub mod Bytes
 pub mod Channels
 pub mod Unique
+pub mod LowBits

@@ -1,0 +1,30 @@
+-- A channel of a few bits, widened to 8 by repeating its bits from the top.
+use Prim.Native.Nat.{ℕ, zero, suc, _+_, _-_, _*_, _/_, _%_, _^_}
+use Rattle.words.specs.Field.{bits}
+use Rattle.words.specs.declared.Rgb.{Rgb}
+
+-- a number of `width` bits, `count` times over, one behind the other
+abbrev pub repeated : ℕ → ℕ → ℕ → ℕ
+repeated width value zero = 0
+repeated width value (suc count) = repeated width value count * 2 ^ width + value
+
+-- the first 8 of the repeated bits
+unfoldable pub widened : ℕ → ℕ → ℕ
+widened width value = repeated width value 8 / 2 ^ (8 * width - 8)
+
+-- bit i from the top of a number of `width` bits, the top one being bit 0
+abbrev pub fromTop : ℕ → ℕ → ℕ → ℕ
+fromTop width value i = value / 2 ^ (width - 1 - i) % 2
+
+-- the channel of a sample that has `width` bits, from bit `low` up
+abbrev pub channel : ℕ → ℕ → ℕ → ℕ
+channel sample low width = widened width (bits sample low width)
+
+-- the colour of a sample whose channels have these widths: red lowest, then green, then blue
+abbrev pub colourOf : ℕ → ℕ → ℕ → ℕ → Rgb
+colourOf red green blue sample =
+    record {
+      red = channel sample 0 red;
+      green = channel sample red green;
+      blue = channel sample (red + green) blue;
+    }

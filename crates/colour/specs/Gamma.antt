@@ -1,0 +1,14 @@
+-- Gamma: each channel is replaced by the same channel of the gamma word that it indexes.
+use Prim.Native.Nat.{ℕ}
+use mathlib.Core.List.{List}
+use lib.ListN.{getD}
+use Rattle.words.specs.Channels.{channelsOf}
+use Rattle.words.specs.declared.Rgb.{Rgb}
+
+abbrev pub corrected : List ℕ → Rgb → Rgb
+corrected gamma colour =
+    record {
+      red = channelsOf (getD gamma (colour .red) 0) .red;
+      green = channelsOf (getD gamma (colour .green) 0) .green;
+      blue = channelsOf (getD gamma (colour .blue) 0) .blue;
+    }

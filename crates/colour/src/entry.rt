@@ -1,0 +1,101 @@
+// Window entries: what an entry says at a depth, and what a sample then shows.
+ghost use mathlib.Core.Path.{_≡_};
+ghost use Prim.Native.Nat.{_<_};
+ghost use Rattle.colour.specs.Entry.{lowOf, decoded};
+ghost use Rattle.colour.specs.Shown.{sampleOf, shownOf};
+use crate::format::Format;
+use crate::format::Index8;
+use crate::format::Index12;
+use crate::format::Numbered;
+use crate::format::Rgb332;
+use crate::format::Rgb444;
+use crate::format::Rgb555;
+use crate::format::Rgb888;
+use words::Rgb;
+
+// What a defined entry says: the format, the lowest bit of the buffer, the bank, and two switches.
+pub struct Entry {
+    pub format: Format,
+    pub low: u32,
+    pub bank: u8,
+    pub bypass: bool,
+    pub overlay: bool,
+}
+
+pub enum Decoded {
+    Defined(Entry),
+    Undefined,
+}
+
+// What a sample shows: an entry of the colour map, or a colour of its own.
+pub enum Shown {
+    MapEntry(u32),
+    Colour(Rgb),
+}
+
+// The lowest bit of a buffer.
+fn low_bit(depth: u32, buffer: u32) -> u32
+    ensures { λ r. ⌜ r ≡ lowOf depth buffer ⌝ }
+{
+    if buffer == 0 { 0 } else { depth / 2 }
+}
+
+// What an entry says at a depth.
+pub fn decode(entry: u32, depth: u32) -> Decoded
+    ensures { λ r. ⌜ r ≡ decoded depth entry ⌝ }
+{
+    let buffer = words::field(entry, 0, 0);
+    let number = words::field(entry, 3, 1);
+    let bank = words::field(entry, 8, 4);
+    let spare = words::field(entry, 12, 11);
+    if spare != 0 {
+        return Decoded::Undefined;
+    }
+    let Numbered::Is(format) = Format::from_number(number) else {
+        return Decoded::Undefined;
+    };
+    let part = format.part(depth);
+    if !part.has_depth() {
+        return Decoded::Undefined;
+    }
+    if !part.has_buffer(buffer) {
+        return Decoded::Undefined;
+    }
+    if !format.has_bank(bank) {
+        return Decoded::Undefined;
+    }
+    Decoded::Defined(Entry {
+        format,
+        low: low_bit(depth, buffer),
+        bank: bank as u8,
+        bypass: words::field(entry, 9, 9) == 1,
+        overlay: words::field(entry, 10, 10) == 1,
+    })
+}
+
+impl Entry {
+    // The sample of a pixel: the bits that the format uses, of the buffer that the entry says.
+    pub fn sample(self, pixel: u32) -> u32
+        requires { ⌜ self .low < 32 ⌝ }
+        ensures { λ r. ⌜ r ≡ sampleOf self pixel ⌝ }
+    {
+        let format = self.format;
+        let bits = format.widths().bits;
+        words::bits(pixel, self.low, bits)
+    }
+
+    // What a sample shows.
+    pub fn shown(self, sample: u32) -> Shown
+        ensures { λ r. ⌜ r ≡ shownOf self sample ⌝ }
+    {
+        let format = self.format;
+        match format {
+            Format::Index8 => Shown::MapEntry(Index8::map_entry(self.bank, sample)),
+            Format::Index12 => Shown::MapEntry(Index12::map_entry(sample)),
+            Format::Rgb332 => Shown::Colour(Rgb332::colour(sample)),
+            Format::Rgb444 => Shown::Colour(Rgb444::colour(sample)),
+            Format::Rgb555 => Shown::Colour(Rgb555::colour(sample)),
+            Format::Rgb888 => Shown::Colour(Rgb888::colour(sample)),
+        }
+    }
+}
