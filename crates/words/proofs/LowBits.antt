@@ -11,6 +11,6 @@ bits-of-low word k low count h =
     let whole : k ≡ k - low + low = omega arith in
     let part : k - low ≡ k - low - count + count = omega arith in
     let shifted : word % 2 ^ k / 2 ^ low ≡ word / 2 ^ low % 2 ^ (k - low) =
-        ap (λ (z : ℕ). word % 2 ^ z / 2 ^ low) whole ∙ field word (k - low) low in
+    ap (λ (z : ℕ). word % 2 ^ z / 2 ^ low) whole ∙ field word (k - low) low in
     ap (λ (z : ℕ). z % 2 ^ count) shifted
     ∙ (ap (λ (z : ℕ). word / 2 ^ low % 2 ^ z % 2 ^ count) part ∙ mod-mod-pow (word / 2 ^ low) (k - low - count) count)

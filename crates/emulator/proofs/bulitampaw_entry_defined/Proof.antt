@@ -1,0 +1,32 @@
+-- `emulator::bulitampaw_entry_defined` meets its contract: the decoder rests on the 13 bits that count. Assumes nothing.
+use Rattle.colour.specs.Entry.{isDefined}
+use Rattle.colour.proofs.Kept.{decoded-kept}
+use Rattle.emulator.specs.Answers.{entryDefined}
+use borrow.Author.Needs.{needs}
+use Rattle.emulator.proofs.bulitampaw_entry_defined.Statement.{statement}
+use Rattle.emulator.proofs.bulitampaw_entry_defined.Tie as tie
+
+decode-requires : tie.Need-decode-requires
+decode-requires c κs = search needs
+
+enum-told : tie.Need-enum-told
+enum-told c = search needs
+
+enum-told-2 : tie.Need-enum-told-2
+enum-told-2 c = search needs
+
+returns : tie.Need-returns
+unfolding entryDefined isDefined
+returns c =
+    let a = c .before .before .before .args in
+    rw (decoded-kept (a .depth) (a .entry), ← c .before .before .decode .ensures, c .enum-told .given .1)
+
+returns-2 : tie.Need-returns-2
+unfolding entryDefined isDefined
+returns-2 c =
+    let a = c .before .before .before .args in
+    rw (decoded-kept (a .depth) (a .entry), ← c .before .before .decode .ensures, c .enum-told2 .given .1)
+
+pub bulitampaw-entry-defined-spec : {M : Type 1} → statement M
+bulitampaw-entry-defined-spec =
+    tie.close (tie.spec decode-requires enum-told enum-told-2 returns returns-2)

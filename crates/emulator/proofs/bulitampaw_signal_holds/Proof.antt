@@ -1,0 +1,19 @@
+-- `emulator::bulitampaw_signal_holds` meets its contract: the window rule, as a number. Assumes nothing.
+use Rattle.emulator.specs.Answers.{signalHolds}
+use borrow.Author.Needs.{needs}
+use Rattle.emulator.proofs.bulitampaw_signal_holds.Statement.{statement}
+use Rattle.emulator.proofs.bulitampaw_signal_holds.Tie as tie
+
+in-window-requires : tie.Need-in-window-requires
+in-window-requires c κs = search needs
+
+returns : tie.Need-returns
+unfolding signalHolds
+returns c = rw (← c .before .in-window .ensures, c .if1 .taken)
+
+returns-2 : tie.Need-returns-2
+unfolding signalHolds
+returns-2 c = rw (← c .before .in-window .ensures, c .if1 .left)
+
+pub bulitampaw-signal-holds-spec : {M : Type 1} → statement M
+bulitampaw-signal-holds-spec = tie.close (tie.spec in-window-requires returns returns-2)

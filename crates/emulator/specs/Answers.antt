@@ -1,0 +1,17 @@
+-- What C is answered, in plain numbers: 1 for yes, 0 for no.
+use Prim.Native.Nat.{ℕ, _%_, _^_}
+use mathlib.Core.Bool.{Bool, true, false}
+use Rattle.colour.specs.Entry.{decoded, isDefined}
+use Rattle.timing.specs.Window.{inWindow}
+
+abbrev pub number : Bool → ℕ
+number true = 1
+number false = 0
+
+-- whether an entry, of which the low 13 bits count, is defined at a depth
+unfoldable pub entryDefined : ℕ → ℕ → ℕ
+entryDefined entry depth = number (isDefined (decoded depth (entry % 2 ^ 13)))
+
+-- whether a signal holds at p, by its window from on to off
+unfoldable pub signalHolds : ℕ → ℕ → ℕ → ℕ
+signalHolds on off p = number (inWindow on off p)
