@@ -4,11 +4,11 @@ use mathlib.Core.Path.{_≡_, sym}
 use mathlib.Core.Bool.{true, false}
 use borrow.Author.Tests.{eq-eqb, ne-eqb}
 use Rattle.words.specs.Field.{field}
-use Rattle.colour.specs.Format.{numbered, partAt}
-use Rattle.colour.specs.Entry.{hasDepth, hasBuffer, hasBank, said, decoded}
-use Rattle.colour.specs.declared.format.Format.{Format}
-use Rattle.colour.specs.declared.format.Numbered.{Numbered}
-use Rattle.colour.specs.declared.format.Numbered.the-variants.{Is, Undefined as NoFormat}
+use Rattle.formats.specs.Table.{numbered, partAt, hasDepth, hasBuffer, hasBank}
+use Rattle.colour.specs.Entry.{said, decoded}
+use Rattle.formats.specs.declared.Format.{Format}
+use Rattle.formats.specs.declared.Numbered.{Numbered}
+use Rattle.formats.specs.declared.Numbered.the-variants.{Is, Undefined as NoFormat}
 use Rattle.colour.specs.declared.entry.Decoded.{Decoded}
 use Rattle.colour.specs.declared.entry.Decoded.the-variants.{Defined, Undefined}
 

@@ -5,10 +5,10 @@ use mathlib.Core.Bool.{cond}
 use lib.Dec.{eqb, lit≤}
 use Rattle.words.specs.Field.{field}
 use Rattle.words.proofs.LowBits.{bits-of-low}
-use Rattle.colour.specs.Format.{numbered}
+use Rattle.formats.specs.Table.{numbered}
 use Rattle.colour.specs.Entry.{decodedAs, decoded}
-use Rattle.colour.specs.declared.format.Numbered.{Numbered}
-use Rattle.colour.specs.declared.format.Numbered.the-variants.{Is, Undefined as NoFormat}
+use Rattle.formats.specs.declared.Numbered.{Numbered}
+use Rattle.formats.specs.declared.Numbered.the-variants.{Is, Undefined as NoFormat}
 
 module _ (depth entry : ℕ) where
   decoded-as-kept : (number : Numbered) → decodedAs depth (entry % 2 ^ 13) number ≡ decodedAs depth entry number

@@ -1,6 +1,4 @@
-pub mod Widening
-pub mod Part
 pub mod Decode
-pub mod Shown
-pub mod Unique
 pub mod Kept
+pub mod Unique
+pub mod Defined

@@ -1,5 +1,3 @@
-pub mod Channel
-pub mod Format
 pub mod Entry
 pub mod Shown
 pub mod Gamma

@@ -1,11 +1,9 @@
 -- What a sample shows under a defined entry.
 use Prim.Native.Nat.{ℕ, _+_, _*_}
 use Rattle.words.specs.Field.{bits}
-use Rattle.words.specs.declared.Rgb.{Rgb}
-use Rattle.colour.specs.Channel.{colourOf}
-use Rattle.colour.specs.Format.{widthsOf}
-use Rattle.colour.specs.declared.format.Format.{Format}
-use Rattle.colour.specs.declared.format.Format.the-variants.{Index8, Index12, Rgb332, Rgb444, Rgb555, Rgb888}
+use Rattle.formats.specs.Table.{widthsOf, valueOf, colourIn}
+use Rattle.formats.specs.declared.Format.{Format}
+use Rattle.formats.specs.declared.Format.the-variants.{Index8, Index12, Rgb332, Rgb444, Rgb555, Rgb888}
 use Rattle.colour.specs.declared.entry.Entry.{Entry}
 use Rattle.colour.specs.declared.entry.Shown.{Shown}
 use Rattle.colour.specs.declared.entry.Shown.the-variants.{MapEntry, Colour}
@@ -13,14 +11,6 @@ use Rattle.colour.specs.declared.entry.Shown.the-variants.{MapEntry, Col
 -- the sample of a pixel: the low bits, as many as the format uses, of the buffer that the entry says
 abbrev pub sampleOf : Entry → ℕ → ℕ
 sampleOf entry pixel = bits pixel (entry .low) (widthsOf (entry .format) .bits)
-
--- the value of an index
-abbrev pub valueOf : Format → ℕ → ℕ
-valueOf format sample = bits sample 0 (widthsOf format .bits)
-
--- the colour of a sample with channels
-abbrev pub colourIn : Format → ℕ → Rgb
-colourIn format sample = colourOf (widthsOf format .red) (widthsOf format .green) (widthsOf format .blue) sample
 
 -- format 0 is map entry 256·bank + value, format 1 is the value; the others are colours
 abbrev pub shownAs : Format → ℕ → ℕ → Shown

@@ -3,14 +3,14 @@ ghost use mathlib.Core.Path.{_≡_};
 ghost use Prim.Native.Nat.{_<_};
 ghost use Rattle.colour.specs.Entry.{lowOf, decoded};
 ghost use Rattle.colour.specs.Shown.{sampleOf, shownOf};
-use crate::format::Format;
-use crate::format::Index8;
-use crate::format::Index12;
-use crate::format::Numbered;
-use crate::format::Rgb332;
-use crate::format::Rgb444;
-use crate::format::Rgb555;
-use crate::format::Rgb888;
+use formats::Format;
+use formats::Index8;
+use formats::Index12;
+use formats::Numbered;
+use formats::Rgb332;
+use formats::Rgb444;
+use formats::Rgb555;
+use formats::Rgb888;
 use words::Rgb;
 
 // What a defined entry says: the format, the lowest bit of the buffer, the bank, and two switches.

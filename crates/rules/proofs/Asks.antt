@@ -4,7 +4,7 @@ use mathlib.Core.Path.{_≡_, refl, sym, ap, subst}
 use mathlib.Core.Bool.{Bool, true, false, cond}
 use mathlib.Core.List.{List, [], _∷_, List·Memᴰ, List·Memᴰ·cases-cons, List·Memᴰ·not-nil}
 use mathlib.Core.Logic.{⊎-elim}
-use native.Mathlib.Omega.{arith}
+use Rattle.rules.proofs.Impossible.{impossible}
 use Rattle.rules.specs.Rule.{Rule, done, stop, ask, Outcome, ok, refused, run, reads, _>>=_, within}
 use Rattle.rules.specs.Each.{each, eachOf}
 use Rattle.rules.specs.Asks.{Asks, Never}
@@ -22,7 +22,7 @@ module _ {R Q A : Type 0} (Allowed : Q → Type 0) (memory : Q → ℕ) where
 
 module _ {R Q A : Type 0} (memory : Q → ℕ) where
   pub never-refused : (rule : Rule R Q A) {refusal : R} → Never rule → run memory rule ≡ refused refusal → ⊥
-  never-refused (done answer) never e = let z : _≡_ {A = ℕ} 0 1 = cc in omega arith
+  never-refused (done answer) never e = impossible (cc)
   never-refused (stop refusal) never e = never
   never-refused (ask cell on) never e = never-refused (on (memory cell)) (never (memory cell)) e
 

@@ -7,6 +7,7 @@ use mathlib.Core.Logic.{⊎-elim}
 use native.Mathlib.Omega.{arith}
 use native.Mathlib.Nat.{sub-zero, sub-self, eq-or-lt-of-le}
 use native.Mathlib.Numerals.{add-one}
+use Rattle.rules.proofs.Impossible.{impossible}
 use Rattle.rules.specs.Rule.{Rule, done, ask, Outcome, ok, refused, run, reads}
 use Rattle.rules.specs.First.{firstFrom, first}
 use Rattle.rules.specs.Each.{values}
@@ -89,7 +90,7 @@ module _ {R Q : Type 0} (missing : R) (cell : ℕ → Q) (passes : ℕ → Bool)
   by-test count from {at} false test e later = found-later count from test (later e)
 
   pub found-from : (count from : ℕ) {at : ℕ} → run memory (firstFrom missing cell passes count from) ≡ ok at → Found count from at
-  found-from zero from {at} e = let z : _≡_ {A = ℕ} 0 1 = cc in absurd (omega arith)
+  found-from zero from {at} e = impossible (cc)
   found-from (suc count) from {at} e =
       by-test count from (passes (memory (cell from))) refl (sym (step count from) ∙ e) (found-from count (suc from))
 
@@ -101,7 +102,7 @@ module _ {R Q : Type 0} (missing : R) (cell : ℕ → Q) (passes : ℕ → Bool)
   missing-by : (count from : ℕ) {refusal : R} (test : Bool) → passes (memory (cell from)) ≡ test
       → cond test (ok from) (run memory (firstFrom missing cell passes count (suc from))) ≡ refused refusal
       → (run memory (firstFrom missing cell passes count (suc from)) ≡ refused refusal → Missing count (suc from)) → Missing (suc count) from
-  missing-by count from {refusal} true test e later = let z : _≡_ {A = ℕ} 0 1 = cc in absurd (omega arith)
+  missing-by count from {refusal} true test e later = impossible (cc)
   missing-by count from {refusal} false test e later =
       let rest : Missing count (suc from) = later e in
       record {

@@ -1,3 +1,4 @@
+pub mod Impossible
 pub mod Rests
 pub mod Then
 pub mod First

@@ -1,0 +1,51 @@
+-- How much of a pixel a format uses follows from its bits: a half where they fit one, else the whole where they fit that. Assumes nothing.
+use Prim.Native.Nat.{ℕ, _/_, _≤_, _<_}
+use mathlib.Core.Path.{_≡_, refl, sym, ap, _∙_}
+use mathlib.Core.Bool.{cond}
+use mathlib.Core.Logic.{_⊎_, inl, inr, ⊎-elim}
+use borrow.Author.Tests.{le-leb, lt-leb, eq-eqb, ne-eqb}
+use lib.Dec.{leb, eqb}
+use Rattle.formats.specs.Table.{widthsOf, at16, at32, partAt}
+use Rattle.formats.specs.declared.Format.{Format}
+use Rattle.formats.specs.declared.Format.the-variants.{Index8, Index12, Rgb332, Rgb444, Rgb555, Rgb888}
+use Rattle.formats.specs.declared.Part.{Part}
+use Rattle.formats.specs.declared.Part.the-variants.{Half, Whole, Unlisted}
+
+-- the part of a pixel that these bits fit
+abbrev pub fitting : ℕ → ℕ → Part
+fitting bits depth = cond (leb bits (depth / 2)) Half (cond (leb bits depth) Whole Unlisted)
+
+at16-fitting : (format : Format) → at16 format ≡ fitting (widthsOf format .bits) 16
+at16-fitting Index8 = refl
+at16-fitting Index12 = refl
+at16-fitting Rgb332 = refl
+at16-fitting Rgb444 = refl
+at16-fitting Rgb555 = refl
+at16-fitting Rgb888 = refl
+
+at32-fitting : (format : Format) → at32 format ≡ fitting (widthsOf format .bits) 32
+at32-fitting Index8 = refl
+at32-fitting Index12 = refl
+at32-fitting Rgb332 = refl
+at32-fitting Rgb444 = refl
+at32-fitting Rgb555 = refl
+at32-fitting Rgb888 = refl
+
+module _ (format : Format) (depth : ℕ) where
+  pub part-fitting : (depth ≡ 16) ⊎ (depth ≡ 32) → partAt depth format ≡ fitting (widthsOf format .bits) depth
+  unfolding partAt
+  part-fitting depths = ⊎-elim (λ e. rw e (at16-fitting format)) (λ e. rw e (at32-fitting format)) depths
+
+  module _ (depths : (depth ≡ 16) ⊎ (depth ≡ 32)) {bits : ℕ} (same : bits ≡ widthsOf format .bits) where
+    pub part-half : bits ≤ depth / 2 → Half ≡ partAt depth format
+    part-half h = sym (rw (part-fitting depths, ← same, le-leb bits (depth / 2) h))
+
+    pub part-whole : depth / 2 < bits → bits ≤ depth → Whole ≡ partAt depth format
+    part-whole above h = sym (rw (part-fitting depths, ← same, lt-leb bits (depth / 2) above, le-leb bits depth h))
+
+    pub part-unlisted : depth / 2 < bits → depth < bits → Unlisted ≡ partAt depth format
+    part-unlisted above h = sym (rw (part-fitting depths, ← same, lt-leb bits (depth / 2) above, lt-leb bits depth h))
+
+  pub part-no-depth : ((depth ≡ 16) ⊎ (depth ≡ 32) → ⊥) → Unlisted ≡ partAt depth format
+  unfolding partAt
+  part-no-depth other = sym (rw (ne-eqb depth 16 (λ e. other (inl e)), ne-eqb depth 32 (λ e. other (inr e))))

@@ -1,0 +1,4 @@
+pub mod Widening
+pub mod Fitting
+pub mod Bounds
+pub mod Unique

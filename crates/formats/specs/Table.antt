@@ -1,0 +1,86 @@
+-- The table of pixel formats.
+use Prim.Native.Nat.{ℕ}
+use mathlib.Core.Bool.{Bool, true, false, cond}
+use mathlib.Core.List.{List, [], _∷_}
+use lib.Dec.{eqb, leb}
+use lib.ListN.{getD}
+use Rattle.words.specs.Field.{bits}
+use Rattle.words.specs.declared.Rgb.{Rgb}
+use Rattle.formats.specs.Channel.{colourOf}
+use Rattle.formats.specs.declared.Format.{Format}
+use Rattle.formats.specs.declared.Format.the-variants.{Index8, Index12, Rgb332, Rgb444, Rgb555, Rgb888}
+use Rattle.formats.specs.declared.Numbered.{Numbered}
+use Rattle.formats.specs.declared.Numbered.the-variants.{Is, Undefined}
+use Rattle.formats.specs.declared.Part.{Part}
+use Rattle.formats.specs.declared.Part.the-variants.{Half, Whole, Unlisted}
+use Rattle.formats.specs.declared.Widths.{Widths}
+
+-- the formats in the order of their numbers
+abbrev pub formats : List Numbered
+formats = Is Index8 ∷ Is Index12 ∷ Is Rgb332 ∷ Is Rgb444 ∷ Is Rgb555 ∷ Is Rgb888 ∷ []
+
+-- every other number is undefined
+abbrev pub numbered : ℕ → Numbered
+numbered number = getD formats number Undefined
+
+-- bits of a sample, of red, of green and of blue
+abbrev pub widths : ℕ → ℕ → ℕ → ℕ → Widths
+widths bits red green blue = record { bits = bits; red = red; green = green; blue = blue }
+
+abbrev pub widthsOf : Format → Widths
+widthsOf Index8 = widths 8 0 0 0
+widthsOf Index12 = widths 12 0 0 0
+widthsOf Rgb332 = widths 8 3 3 2
+widthsOf Rgb444 = widths 12 4 4 4
+widthsOf Rgb555 = widths 15 5 5 5
+widthsOf Rgb888 = widths 24 8 8 8
+
+-- what of a pixel is used at depth 16, and what at depth 32
+abbrev pub at16 : Format → Part
+at16 Index8 = Half
+at16 Index12 = Whole
+at16 Rgb332 = Half
+at16 Rgb444 = Whole
+at16 Rgb555 = Whole
+at16 Rgb888 = Unlisted
+
+abbrev pub at32 : Format → Part
+at32 Index8 = Half
+at32 Index12 = Half
+at32 Rgb332 = Half
+at32 Rgb444 = Half
+at32 Rgb555 = Half
+at32 Rgb888 = Whole
+
+-- at a depth other than 16 or 32 nothing is listed
+unfoldable pub partAt : ℕ → Format → Part
+partAt depth format = cond (eqb depth 16) (at16 format) (cond (eqb depth 32) (at32 format) Unlisted)
+
+-- a depth that the table lists
+abbrev pub hasDepth : Part → Bool
+hasDepth Half = true
+hasDepth Whole = true
+hasDepth Unlisted = false
+
+-- a buffer that the table lists: of a half either, of a whole pixel buffer 0
+abbrev pub hasBuffer : Part → ℕ → Bool
+hasBuffer Half buffer = true
+hasBuffer Whole buffer = eqb buffer 0
+hasBuffer Unlisted buffer = false
+
+-- format 0 has banks up to 17; in other formats the bank is ignored
+abbrev pub hasBank : Format → ℕ → Bool
+hasBank Index8 bank = leb bank 17
+hasBank Index12 bank = true
+hasBank Rgb332 bank = true
+hasBank Rgb444 bank = true
+hasBank Rgb555 bank = true
+hasBank Rgb888 bank = true
+
+-- the value of an index
+abbrev pub valueOf : Format → ℕ → ℕ
+valueOf format sample = bits sample 0 (widthsOf format .bits)
+
+-- the colour of a sample with channels
+abbrev pub colourIn : Format → ℕ → Rgb
+colourIn format sample = colourOf (widthsOf format .red) (widthsOf format .green) (widthsOf format .blue) sample

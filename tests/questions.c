@@ -1,0 +1,48 @@
+/* The two questions as an emulator asks them, against the answers that the paper gives. */
+#include <inttypes.h>
+#include <stdio.h>
+
+#include "bulitampaw.h"
+
+static int failures = 0;
+
+static void same(const char *what, uint32_t got, uint32_t wanted) {
+    if (got != wanted) {
+        printf("%s: got %" PRIu32 ", wanted %" PRIu32 "\n", what, got, wanted);
+        failures++;
+    }
+}
+
+/* How many of the 8,192 entries are defined at a depth, with other bits set above the 13 that count. */
+static uint32_t defined_entries(uint32_t depth, uint32_t above) {
+    uint32_t count = 0;
+    for (uint32_t entry = 0; entry < 8192; entry++)
+        count += bulitampaw_entry_defined(above | entry, depth);
+    return count;
+}
+
+int main(void) {
+    same("defined at depth 16", defined_entries(16, 0), 784);
+    same("defined at depth 32", defined_entries(32, 0), 1296);
+    same("defined at depth 16, bits above 13", defined_entries(16, 0xFFFFE000u), 784);
+    same("defined at depth 32, bits above 13", defined_entries(32, 0xA5A5A000u), 1296);
+    static const uint32_t other_depths[] = {0, 1, 8, 15, 17, 24, 31, 33, 48, 64, 65552, 65568, 0xFFFFFFFFu};
+    for (unsigned i = 0; i < sizeof other_depths / sizeof *other_depths; i++)
+        same("defined at another depth", defined_entries(other_depths[i], 0), 0);
+
+    same("entry 0x110, bank 17", bulitampaw_entry_defined(0x110, 16), 1);
+    same("entry 0x120, bank 18", bulitampaw_entry_defined(0x120, 16), 0);
+
+    static const uint32_t round[8] = {1, 1, 0, 0, 0, 1, 1, 1};
+    for (uint32_t p = 0; p < 8; p++) {
+        same("on 5, off 2", bulitampaw_signal_holds(5, 2, p), round[p]);
+        same("on 3, off 3", bulitampaw_signal_holds(3, 3, p), 0);
+    }
+    same("on 2, off 5, before", bulitampaw_signal_holds(2, 5, 1), 0);
+    same("on 2, off 5, at on", bulitampaw_signal_holds(2, 5, 2), 1);
+    same("on 2, off 5, at off", bulitampaw_signal_holds(2, 5, 5), 0);
+    same("the largest numbers", bulitampaw_signal_holds(0xFFFFFFFFu, 0, 0xFFFFFFFFu), 1);
+
+    printf("questions from C: %d failed\n", failures);
+    return failures != 0;
+}
