@@ -1,7 +1,7 @@
 -- What holds of every defined entry: its depth is listed, its sample lies within the pixel, and it shows no map entry past the last. Assumes nothing.
 use Prim.Native.Nat.{ℕ, _+_, _*_, _/_, _≤_, _<_}
 use mathlib.Core.Path.{_≡_, refl, sym, ap, _∙_}
-use mathlib.Core.Bool.{Bool, true, false, cond}
+use mathlib.Core.Bool.{Bool, true, false, cond, not}
 use mathlib.Core.Logic.{_⊎_, inl, inr}
 use native.Mathlib.Omega.{arith}
 use native.Mathlib.Nat.{mod-lt}
@@ -9,7 +9,7 @@ use borrow.Author.Tests.{eqb-true, leb-true}
 use lib.Dec.{eqb, leb, lit<}
 use Rattle.rules.proofs.Impossible.{impossible}
 use Rattle.words.specs.Field.{field}
-use Rattle.formats.specs.Table.{widthsOf, numbered, at16, at32, partAt, hasDepth, hasBuffer, hasBank, valueOf}
+use Rattle.formats.specs.Table.{widthsOf, numbered, rowOf, partAt, hasDepth, hasBuffer, hasBank, valueOf}
 use Rattle.formats.proofs.Fitting.{fitting, part-fitting}
 use Rattle.formats.specs.declared.Format.{Format}
 use Rattle.formats.specs.declared.Format.the-variants.{Index8, Index12, Rgb332, Rgb444, Rgb555, Rgb888}
@@ -17,7 +17,7 @@ use Rattle.formats.specs.declared.Numbered.{Numbered}
 use Rattle.formats.specs.declared.Numbered.the-variants.{Is, Undefined as NoFormat}
 use Rattle.formats.specs.declared.Part.{Part}
 use Rattle.formats.specs.declared.Part.the-variants.{Half, Whole, Unlisted}
-use Rattle.colour.specs.Entry.{lowOf, said, decodedAs, decoded}
+use Rattle.colour.specs.Entry.{lowOf, said, withFormat, decoded}
 use Rattle.colour.specs.Shown.{shownAs, shownOf}
 use Rattle.colour.specs.declared.entry.Entry.{Entry}
 use Rattle.colour.specs.declared.entry.Decoded.{Decoded}
@@ -49,7 +49,7 @@ module _ (depth buffer : ℕ) where
   within-by bits false false h w e = impossible (cc)
 
   depth-by : (format : Format) (is16 is32 : Bool) → eqb depth 16 ≡ is16 → eqb depth 32 ≡ is32
-      → hasDepth (cond is16 (at16 format) (cond is32 (at32 format) Unlisted)) ≡ true → (depth ≡ 16) ⊎ (depth ≡ 32)
+      → hasDepth (cond is16 (rowOf format .at16) (cond is32 (rowOf format .at32) Unlisted)) ≡ true → (depth ≡ 16) ⊎ (depth ≡ 32)
   depth-by format true is32 h w e = inl (eqb-true depth 16 h)
   depth-by format false true h w e = inr (eqb-true depth 32 w)
   depth-by format false false h w e = impossible (cc)
@@ -67,7 +67,7 @@ module _ (depth buffer : ℕ) where
 module _ (depth number : ℕ) where
   says-by : (format : Format) {entry : Entry} (a b c : Bool)
       → hasDepth (partAt depth format) ≡ a → hasBuffer (partAt depth format) (field number 0 0) ≡ b → hasBank format (field number 8 4) ≡ c
-      → cond a (cond b (cond c (Defined (said depth number format)) Undefined) Undefined) Undefined ≡ Defined entry → Says depth entry
+      → cond (not a) Undefined (cond (not b) Undefined (cond (not c) Undefined (Defined (said depth number format)))) ≡ Defined entry → Says depth entry
   says-by format {entry} true true true a b c e =
       let same : said depth number format ≡ entry = cc in
       let at = depths depth 0 format a in
@@ -76,12 +76,19 @@ module _ (depth number : ℕ) where
   says-by format {entry} true false c a b h e = impossible (cc)
   says-by format {entry} false b c a h g e = impossible (cc)
 
-  says-as : {entry : Entry} (named : Numbered) → decodedAs depth number named ≡ Defined entry → Says depth entry
+  -- the tests that follow the format
+  abbrev tested : Format → Decoded
+  tested format =
+      cond (not (hasDepth (partAt depth format))) Undefined
+      (cond (not (hasBuffer (partAt depth format) (field number 0 0))) Undefined
+      (cond (not (hasBank format (field number 8 4))) Undefined (Defined (said depth number format))))
+
+  says-as : {entry : Entry} (named : Numbered) → withFormat named tested ≡ Defined entry → Says depth entry
   says-as {entry} NoFormat e = impossible (cc)
   says-as {entry} (Is format) e =
       says-by format (hasDepth (partAt depth format)) (hasBuffer (partAt depth format) (field number 0 0)) (hasBank format (field number 8 4)) refl refl refl e
 
-  spare-by : {entry : Entry} (clear : Bool) → cond clear (decodedAs depth number (numbered (field number 3 1))) Undefined ≡ Defined entry → Says depth entry
+  spare-by : {entry : Entry} (clear : Bool) → cond (not clear) Undefined (withFormat (numbered (field number 3 1)) tested) ≡ Defined entry → Says depth entry
   spare-by true e = says-as (numbered (field number 3 1)) e
   spare-by {entry} false e = impossible (cc)
 

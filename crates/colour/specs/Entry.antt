@@ -1,6 +1,6 @@
 -- What a window entry says at a depth: buffer in bit 0, format in 3..1, bank in 8..4, gamma bypass in 9, overlay allowed in 10, zero in 12..11.
 use Prim.Native.Nat.{ℕ, _/_}
-use mathlib.Core.Bool.{Bool, true, false, cond}
+use mathlib.Core.Bool.{Bool, true, false, cond, not}
 use lib.Dec.{eqb}
 use Rattle.words.specs.Field.{field}
 use Rattle.formats.specs.Table.{numbered, partAt, hasDepth, hasBuffer, hasBank}
@@ -26,19 +26,20 @@ said depth entry format =
       overlay = eqb (field entry 10 10) 1;
     }
 
--- by the format that its number names, an entry is tested for its depth, then its buffer, then its bank
-abbrev pub decodedAs : ℕ → ℕ → Numbered → Decoded
-decodedAs depth entry NoFormat = Undefined
-decodedAs depth entry (Is format) =
-    cond (hasDepth (partAt depth format))
-    (cond (hasBuffer (partAt depth format) (field entry 0 0))
-    (cond (hasBank format (field entry 8 4)) (Defined (said depth entry format)) Undefined)
-    Undefined)
-    Undefined
+-- what follows from the format that a number names
+abbrev pub withFormat : Numbered → (Format → Decoded) → Decoded
+withFormat NoFormat next = Undefined
+withFormat (Is format) next = next format
 
--- an entry is tested for its spare bits, then its format, and then so
+-- an entry is tested for its spare bits, its format, its depth, its buffer and its bank, in this order
 unfoldable pub decoded : ℕ → ℕ → Decoded
-decoded depth entry = cond (eqb (field entry 12 11) 0) (decodedAs depth entry (numbered (field entry 3 1))) Undefined
+decoded depth entry =
+    cond (not (eqb (field entry 12 11) 0)) Undefined
+    (withFormat (numbered (field entry 3 1)) (λ format.
+    cond (not (hasDepth (partAt depth format))) Undefined
+    (cond (not (hasBuffer (partAt depth format) (field entry 0 0))) Undefined
+    (cond (not (hasBank format (field entry 8 4))) Undefined
+    (Defined (said depth entry format))))))
 
 -- whether an entry is defined at a depth
 unfoldable pub isDefined : Decoded → Bool

@@ -5,7 +5,7 @@ use mathlib.Core.Bool.{cond}
 use mathlib.Core.Logic.{_⊎_, inl, inr, ⊎-elim}
 use borrow.Author.Tests.{le-leb, lt-leb, eq-eqb, ne-eqb}
 use lib.Dec.{leb, eqb}
-use Rattle.formats.specs.Table.{widthsOf, at16, at32, partAt}
+use Rattle.formats.specs.Table.{rowOf, widthsOf, partAt}
 use Rattle.formats.specs.declared.Format.{Format}
 use Rattle.formats.specs.declared.Format.the-variants.{Index8, Index12, Rgb332, Rgb444, Rgb555, Rgb888}
 use Rattle.formats.specs.declared.Part.{Part}
@@ -15,26 +15,18 @@ use Rattle.formats.specs.declared.Part.the-variants.{Half, Whole, Unlist
 abbrev pub fitting : ℕ → ℕ → Part
 fitting bits depth = cond (leb bits (depth / 2)) Half (cond (leb bits depth) Whole Unlisted)
 
-at16-fitting : (format : Format) → at16 format ≡ fitting (widthsOf format .bits) 16
-at16-fitting Index8 = refl
-at16-fitting Index12 = refl
-at16-fitting Rgb332 = refl
-at16-fitting Rgb444 = refl
-at16-fitting Rgb555 = refl
-at16-fitting Rgb888 = refl
-
-at32-fitting : (format : Format) → at32 format ≡ fitting (widthsOf format .bits) 32
-at32-fitting Index8 = refl
-at32-fitting Index12 = refl
-at32-fitting Rgb332 = refl
-at32-fitting Rgb444 = refl
-at32-fitting Rgb555 = refl
-at32-fitting Rgb888 = refl
+row-fitting : (format : Format) → (rowOf format .at16 ≡ fitting (widthsOf format .bits) 16) × (rowOf format .at32 ≡ fitting (widthsOf format .bits) 32)
+row-fitting Index8 = (refl, refl)
+row-fitting Index12 = (refl, refl)
+row-fitting Rgb332 = (refl, refl)
+row-fitting Rgb444 = (refl, refl)
+row-fitting Rgb555 = (refl, refl)
+row-fitting Rgb888 = (refl, refl)
 
 module _ (format : Format) (depth : ℕ) where
   pub part-fitting : (depth ≡ 16) ⊎ (depth ≡ 32) → partAt depth format ≡ fitting (widthsOf format .bits) depth
   unfolding partAt
-  part-fitting depths = ⊎-elim (λ e. rw e (at16-fitting format)) (λ e. rw e (at32-fitting format)) depths
+  part-fitting depths = ⊎-elim (λ e. rw e (row-fitting format .0)) (λ e. rw e (row-fitting format .1)) depths
 
   module _ (depths : (depth ≡ 16) ⊎ (depth ≡ 32)) {bits : ℕ} (same : bits ≡ widthsOf format .bits) where
     pub part-half : bits ≤ depth / 2 → Half ≡ partAt depth format

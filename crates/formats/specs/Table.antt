@@ -23,38 +23,31 @@ formats = Is Index8 ∷ Is Index12 ∷ Is Rgb332 ∷ Is Rgb444 ∷ Is Rgb555 ∷
 abbrev pub numbered : ℕ → Numbered
 numbered number = getD formats number Undefined
 
--- bits of a sample, of red, of green and of blue
-abbrev pub widths : ℕ → ℕ → ℕ → ℕ → Widths
-widths bits red green blue = record { bits = bits; red = red; green = green; blue = blue }
+-- a row of the table: the bits of a sample and of each channel, and what of a pixel is used at depth 16 and at depth 32
+pub record Row : Type 0 where
+  pub widths : Widths
+  pub at16 : Part
+  pub at32 : Part
+
+abbrev row : ℕ → ℕ → ℕ → ℕ → Part → Part → Row
+row bits red green blue at16 at32 =
+    record { widths = record { bits = bits; red = red; green = green; blue = blue }; at16 = at16; at32 = at32 }
+
+--                    bits, red green blue, depth 16, depth 32
+abbrev pub rowOf : Format → Row
+rowOf Index8 = row 8 0 0 0 Half Half
+rowOf Index12 = row 12 0 0 0 Whole Half
+rowOf Rgb332 = row 8 3 3 2 Half Half
+rowOf Rgb444 = row 12 4 4 4 Whole Half
+rowOf Rgb555 = row 15 5 5 5 Whole Half
+rowOf Rgb888 = row 24 8 8 8 Unlisted Whole
 
 abbrev pub widthsOf : Format → Widths
-widthsOf Index8 = widths 8 0 0 0
-widthsOf Index12 = widths 12 0 0 0
-widthsOf Rgb332 = widths 8 3 3 2
-widthsOf Rgb444 = widths 12 4 4 4
-widthsOf Rgb555 = widths 15 5 5 5
-widthsOf Rgb888 = widths 24 8 8 8
-
--- what of a pixel is used at depth 16, and what at depth 32
-abbrev pub at16 : Format → Part
-at16 Index8 = Half
-at16 Index12 = Whole
-at16 Rgb332 = Half
-at16 Rgb444 = Whole
-at16 Rgb555 = Whole
-at16 Rgb888 = Unlisted
-
-abbrev pub at32 : Format → Part
-at32 Index8 = Half
-at32 Index12 = Half
-at32 Rgb332 = Half
-at32 Rgb444 = Half
-at32 Rgb555 = Half
-at32 Rgb888 = Whole
+widthsOf format = rowOf format .widths
 
 -- at a depth other than 16 or 32 nothing is listed
 unfoldable pub partAt : ℕ → Format → Part
-partAt depth format = cond (eqb depth 16) (at16 format) (cond (eqb depth 32) (at32 format) Unlisted)
+partAt depth format = cond (eqb depth 16) (rowOf format .at16) (cond (eqb depth 32) (rowOf format .at32) Unlisted)
 
 -- a depth that the table lists
 abbrev pub hasDepth : Part → Bool
