@@ -7,9 +7,7 @@ use Rattle.words.specs.Field.{field}
 use Rattle.formats.specs.Table.{numbered, partAt, hasDepth, hasBuffer, hasBank}
 use Rattle.colour.specs.Entry.{said, decoded}
 use Rattle.formats.specs.declared.Format.{Format}
-use Rattle.formats.specs.declared.Numbered.{Numbered}
 use Rattle.formats.specs.declared.Numbered.the-variants.{Is, Undefined as NoFormat}
-use Rattle.colour.specs.declared.entry.Decoded.{Decoded}
 use Rattle.colour.specs.declared.entry.Decoded.the-variants.{Defined, Undefined}
 
 module _ (depth entry : ℕ) where

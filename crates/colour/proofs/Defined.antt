@@ -1,6 +1,6 @@
 -- What holds of every defined entry: its depth is listed, its sample lies within the pixel, and it shows no map entry past the last. Assumes nothing.
 use Prim.Native.Nat.{ℕ, _+_, _*_, _/_, _≤_, _<_}
-use mathlib.Core.Path.{_≡_, refl, sym, ap, _∙_}
+use mathlib.Core.Path.{_≡_, refl}
 use mathlib.Core.Bool.{Bool, true, false, cond, not}
 use mathlib.Core.Logic.{_⊎_, inl, inr}
 use native.Mathlib.Omega.{arith}
@@ -10,20 +10,18 @@ use lib.Dec.{eqb, leb, lit<}
 use Rattle.rules.proofs.Impossible.{impossible}
 use Rattle.words.specs.Field.{field}
 use Rattle.formats.specs.Table.{widthsOf, numbered, rowOf, partAt, hasDepth, hasBuffer, hasBank, valueOf}
-use Rattle.formats.proofs.Fitting.{fitting, part-fitting}
+use Rattle.formats.proofs.Fitting.{part-fitting}
 use Rattle.formats.specs.declared.Format.{Format}
 use Rattle.formats.specs.declared.Format.the-variants.{Index8, Index12, Rgb332, Rgb444, Rgb555, Rgb888}
 use Rattle.formats.specs.declared.Numbered.{Numbered}
 use Rattle.formats.specs.declared.Numbered.the-variants.{Is, Undefined as NoFormat}
-use Rattle.formats.specs.declared.Part.{Part}
 use Rattle.formats.specs.declared.Part.the-variants.{Half, Whole, Unlisted}
 use Rattle.colour.specs.Entry.{lowOf, said, withFormat, decoded}
 use Rattle.colour.specs.Shown.{shownAs, shownOf}
 use Rattle.colour.specs.declared.entry.Entry.{Entry}
 use Rattle.colour.specs.declared.entry.Decoded.{Decoded}
 use Rattle.colour.specs.declared.entry.Decoded.the-variants.{Defined, Undefined}
-use Rattle.colour.specs.declared.entry.Shown.{Shown}
-use Rattle.colour.specs.declared.entry.Shown.the-variants.{MapEntry, Colour}
+use Rattle.colour.specs.declared.entry.Shown.the-variants.{MapEntry}
 
 pub record Says (depth : ℕ) (entry : Entry) : Type 0 where
   pub at-depth : (depth ≡ 16) ⊎ (depth ≡ 32)

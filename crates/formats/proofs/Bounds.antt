@@ -1,5 +1,5 @@
 -- Bounds of the table. Assumes nothing.
-use Prim.Native.Nat.{ℕ, _≤_, _<_}
+use Prim.Native.Nat.{_≤_}
 use lib.Dec.{lit≤}
 use Rattle.formats.specs.Table.{widthsOf}
 use Rattle.formats.specs.declared.Format.{Format}

@@ -1,10 +1,10 @@
 -- How much of a pixel a format uses follows from its bits: a half where they fit one, else the whole where they fit that. Assumes nothing.
 use Prim.Native.Nat.{ℕ, _/_, _≤_, _<_}
-use mathlib.Core.Path.{_≡_, refl, sym, ap, _∙_}
+use mathlib.Core.Path.{_≡_, refl, sym}
 use mathlib.Core.Bool.{cond}
 use mathlib.Core.Logic.{_⊎_, inl, inr, ⊎-elim}
-use borrow.Author.Tests.{le-leb, lt-leb, eq-eqb, ne-eqb}
-use lib.Dec.{leb, eqb}
+use borrow.Author.Tests.{le-leb, lt-leb, ne-eqb}
+use lib.Dec.{leb}
 use Rattle.formats.specs.Table.{rowOf, widthsOf, partAt}
 use Rattle.formats.specs.declared.Format.{Format}
 use Rattle.formats.specs.declared.Format.the-variants.{Index8, Index12, Rgb332, Rgb444, Rgb555, Rgb888}

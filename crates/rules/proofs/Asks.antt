@@ -5,7 +5,7 @@ use mathlib.Core.Bool.{Bool, true, false, cond}
 use mathlib.Core.List.{List, [], _∷_, List·Memᴰ, List·Memᴰ·cases-cons, List·Memᴰ·not-nil}
 use mathlib.Core.Logic.{⊎-elim}
 use Rattle.rules.proofs.Impossible.{impossible}
-use Rattle.rules.specs.Rule.{Rule, done, stop, ask, Outcome, ok, refused, run, reads, _>>=_, within}
+use Rattle.rules.specs.Rule.{Rule, done, stop, ask, refused, run, reads, _>>=_, within}
 use Rattle.rules.specs.Each.{each, eachOf}
 use Rattle.rules.specs.Asks.{Asks, Never}
 

@@ -6,7 +6,7 @@ use native.Mathlib.Omega.{arith}
 use native.Mathlib.Nat.{add-zero, zero-add, add-suc, suc-add, not-suc-le-zero}
 use borrow.Author.Count.{below-none, below-more}
 use lib.ListN.{length, getD}
-use Rattle.rules.specs.Rule.{Rule, done, Outcome, ok, refused, run, reads, _>>=_, next, nextReads}
+use Rattle.rules.specs.Rule.{Rule, done, Outcome, ok, refused, run, reads, _>>=_, nextReads}
 use Rattle.rules.specs.Each.{values, joined, each, eachOf}
 use Rattle.rules.proofs.Then.{run-ok, run-refused, reads-then, reads-ok, reads-refused}
 

@@ -6,7 +6,7 @@ use native.Mathlib.Omega.{arith}
 use native.Mathlib.Nat.{add-zero, add-suc, suc-add, not-suc-le-zero}
 use native.Mathlib.Numerals.{add-one}
 use lib.ListN.{length, set, length-append, length-drop, length-set}
-use Rattle.rules.specs.Each.{values, filled}
+use Rattle.rules.specs.Each.{filled}
 use Rattle.rules.proofs.Each.{length-values}
 
 module _ {A : Type 0} (at : ℕ → A) where

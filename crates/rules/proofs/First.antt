@@ -8,7 +8,7 @@ use native.Mathlib.Omega.{arith}
 use native.Mathlib.Nat.{sub-zero, sub-self, eq-or-lt-of-le}
 use native.Mathlib.Numerals.{add-one}
 use Rattle.rules.proofs.Impossible.{impossible}
-use Rattle.rules.specs.Rule.{Rule, done, ask, Outcome, ok, refused, run, reads}
+use Rattle.rules.specs.Rule.{done, ok, refused, run, reads}
 use Rattle.rules.specs.First.{firstFrom, first}
 use Rattle.rules.specs.Each.{values}
 use Rattle.rules.proofs.Then.{run-cond, reads-cond}

@@ -1,7 +1,7 @@
 -- What a rule rests on: two memories that agree on the cells that it reads have one outcome, and the same cells are read. Assumes nothing.
 use Prim.Native.Nat.{ℕ}
 use mathlib.Core.Path.{_≡_, refl, ap, _∙_}
-use mathlib.Core.List.{List, _∷_, List·Memᴰ, List·Memᴰ·head, List·Memᴰ·tail}
+use mathlib.Core.List.{List, _∷_, List·Memᴰ·head, List·Memᴰ·tail}
 use Rattle.rules.specs.Rule.{Rule, done, stop, ask, run, reads, Agree}
 
 agree-later : {Q : Type 0} {memory other : Q → ℕ} {asked : Q} {cells : List Q} → Agree memory other (asked ∷ cells) → Agree memory other cells

@@ -65,13 +65,3 @@ module _ {R A : Type 0} where
   abbrev pub renamed : {S : Type 0} → (R → S) → Outcome R A → Outcome S A
   renamed name (ok answer) = ok answer
   renamed name (refused refusal) = refused (name refusal)
-
-  -- an outcome without its answer: whether it was refused, and how
-  abbrev pub verdict : Outcome R A → Outcome R (Unit {0})
-  verdict (ok answer) = ok tt
-  verdict (refused refusal) = refused refusal
-
-  -- the answer, or another value where there is none
-  abbrev pub answerOr : A → Outcome R A → A
-  answerOr other (ok answer) = answer
-  answerOr other (refused refusal) = other

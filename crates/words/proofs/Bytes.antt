@@ -1,9 +1,8 @@
 -- Big-endian numbers: one in front of another, and how large they get. Assumes nothing.
-use mathlib.Core.Path.{_≡_, refl, sym, ap, _∙_}
+use mathlib.Core.Path.{_≡_}
 use Prim.Native.Nat.{ℕ, zero, suc, _+_, _*_, _^_, _<_}
 use mathlib.Core.List.{List}
-use native.Mathlib.Nat.{add-zero, zero-add, zero-mul, mul-one, add-suc, add-assoc, mul-assoc, add-mul, pow-suc}
-use native.Mathlib.Omega.{arith}
+use native.Mathlib.Nat.{add-zero, mul-one, add-suc, add-assoc, mul-assoc, add-mul, pow-suc}
 use lib.Arith.{digits-lt}
 use lib.Dec.{lit<}
 use lib.ListN.{getD}
@@ -15,10 +14,7 @@ big-endian-add bytes at m zero = simp (mul-one, add-zero)
 big-endian-add bytes at m (suc n) =
     rw (add-suc, pow-suc, big-endian-add bytes at m n) (simp (add-mul, mul-assoc, add-assoc))
 
--- one byte is itself
-pub big-endian-one : (bytes : List ℕ) (at : ℕ) → bigEndian bytes at 1 ≡ getD bytes at 0
-big-endian-one bytes at = simp (zero-add, add-zero)
-
+-- bytes below 256 make a number of that many bytes
 pub big-endian-lt : (bytes : List ℕ) (at count : ℕ) → ((i : ℕ) → getD bytes i 0 < 256) → bigEndian bytes at count < 256 ^ count
 big-endian-lt bytes at zero small = lit< tt
 big-endian-lt bytes at (suc count) small = rw pow-suc (digits-lt (big-endian-lt bytes at count small) (small (at + count)))

@@ -1,6 +1,5 @@
 -- `formats::Format::part` meets its contract: the bits say which part, at the two depths. Assumes nothing.
 use mathlib.Core.Path.{_≡_, ap}
-use mathlib.Core.Logic.{⊎-elim}
 use Rattle.formats.specs.Table.{widthsOf}
 use Rattle.formats.specs.declared.Widths.{Widths}
 use Rattle.formats.proofs.Fitting.{part-half, part-whole, part-unlisted, part-no-depth}
