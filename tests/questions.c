@@ -1,4 +1,4 @@
-/* The two questions as an emulator asks them, against the answers that the paper gives. */
+/* The two questions as an emulator asks them, against answers worked out from the paper by hand. */
 #include <inttypes.h>
 #include <stdio.h>
 
@@ -30,8 +30,15 @@ int main(void) {
     for (unsigned i = 0; i < sizeof other_depths / sizeof *other_depths; i++)
         same("defined at another depth", defined_entries(other_depths[i], 0), 0);
 
-    same("entry 0x110, bank 17", bulitampaw_entry_defined(0x110, 16), 1);
-    same("entry 0x120, bank 18", bulitampaw_entry_defined(0x120, 16), 0);
+    for (uint32_t depth = 16; depth <= 32; depth += 16) {
+        same("entry 0x110, bank 17", bulitampaw_entry_defined(0x110, depth), 1);
+        same("entry 0x120, bank 18", bulitampaw_entry_defined(0x120, depth), 0);
+    }
+    same("format 1, buffer 0, depth 16", bulitampaw_entry_defined(0x2, 16), 1);
+    same("format 1, buffer 1, depth 16", bulitampaw_entry_defined(0x3, 16), 0);
+    same("format 5, buffer 0, depth 32", bulitampaw_entry_defined(0xA, 32), 1);
+    same("format 5, buffer 1, depth 32", bulitampaw_entry_defined(0xB, 32), 0);
+    same("format 5, depth 16", bulitampaw_entry_defined(0xA, 16), 0);
 
     static const uint32_t round[8] = {1, 1, 0, 0, 0, 1, 1, 1};
     for (uint32_t p = 0; p < 8; p++) {

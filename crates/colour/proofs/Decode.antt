@@ -10,31 +10,31 @@ use Rattle.formats.specs.declared.Format.{Format}
 use Rattle.formats.specs.declared.Numbered.the-variants.{Is, Undefined as NoFormat}
 use Rattle.colour.specs.declared.entry.Decoded.the-variants.{Defined, Undefined}
 
-module _ (depth entry : ℕ) where
-  pub spare-bits : (field entry 12 11 ≡ 0 → ⊥) → Undefined ≡ decoded depth entry
+module _ (entry depth : ℕ) where
+  pub spare-bits : (field entry 12 11 ≡ 0 → ⊥) → Undefined ≡ decoded entry depth
   unfolding decoded
   spare-bits set = sym (rw (ne-eqb (field entry 12 11) 0 set))
 
   module _ (clear : field entry 12 11 ≡ 0) where
-    pub no-format : numbered (field entry 3 1) ≡ NoFormat → Undefined ≡ decoded depth entry
+    pub no-format : numbered (field entry 3 1) ≡ NoFormat → Undefined ≡ decoded entry depth
     unfolding decoded
     no-format none = sym (rw (eq-eqb (field entry 12 11) 0 clear, none))
 
     module _ {format : Format} (named : numbered (field entry 3 1) ≡ Is format) where
-      pub no-depth : false ≡ hasDepth (partAt depth format) → Undefined ≡ decoded depth entry
+      pub no-depth : false ≡ hasDepth (partAt format depth) → Undefined ≡ decoded entry depth
       unfolding decoded
       no-depth none = sym (rw (eq-eqb (field entry 12 11) 0 clear, named, ← none))
 
-      module _ (at-depth : true ≡ hasDepth (partAt depth format)) where
-        pub no-buffer : false ≡ hasBuffer (partAt depth format) (field entry 0 0) → Undefined ≡ decoded depth entry
+      module _ (at-depth : true ≡ hasDepth (partAt format depth)) where
+        pub no-buffer : false ≡ hasBuffer (partAt format depth) (field entry 0 0) → Undefined ≡ decoded entry depth
         unfolding decoded
         no-buffer none = sym (rw (eq-eqb (field entry 12 11) 0 clear, named, ← at-depth, ← none))
 
-        module _ (in-buffer : true ≡ hasBuffer (partAt depth format) (field entry 0 0)) where
-          pub no-bank : false ≡ hasBank format (field entry 8 4) → Undefined ≡ decoded depth entry
+        module _ (in-buffer : true ≡ hasBuffer (partAt format depth) (field entry 0 0)) where
+          pub no-bank : false ≡ hasBank format (field entry 8 4) → Undefined ≡ decoded entry depth
           unfolding decoded
           no-bank none = sym (rw (eq-eqb (field entry 12 11) 0 clear, named, ← at-depth, ← in-buffer, ← none))
 
-          pub is-defined : true ≡ hasBank format (field entry 8 4) → Defined (said depth entry format) ≡ decoded depth entry
+          pub is-defined : true ≡ hasBank format (field entry 8 4) → Defined (said entry depth format) ≡ decoded entry depth
           unfolding decoded
           is-defined in-bank = sym (rw (eq-eqb (field entry 12 11) 0 clear, named, ← at-depth, ← in-buffer, ← in-bank))

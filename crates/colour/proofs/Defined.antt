@@ -2,12 +2,12 @@
 use Prim.Native.Nat.{ℕ, _+_, _*_, _/_, _≤_, _<_}
 use mathlib.Core.Path.{_≡_, refl}
 use mathlib.Core.Bool.{Bool, true, false, cond, not}
-use mathlib.Core.Logic.{_⊎_, inl, inr}
+use mathlib.Core.Logic.{_⊎_, inl, inr, ⊎-elim}
 use native.Mathlib.Omega.{arith}
 use native.Mathlib.Nat.{mod-lt}
 use borrow.Author.Tests.{eqb-true, leb-true}
 use lib.Dec.{eqb, leb, lit<}
-use Rattle.rules.proofs.Impossible.{impossible}
+use Rattle.rules.proofs.Cases.{impossible}
 use Rattle.words.specs.Field.{field}
 use Rattle.formats.specs.Table.{widthsOf, numbered, rowOf, partAt, hasDepth, hasBuffer, hasBank, valueOf}
 use Rattle.formats.proofs.Fitting.{part-fitting}
@@ -23,8 +23,10 @@ use Rattle.colour.specs.declared.entry.Decoded.{Decoded}
 use Rattle.colour.specs.declared.entry.Decoded.the-variants.{Defined, Undefined}
 use Rattle.colour.specs.declared.entry.Shown.the-variants.{MapEntry}
 
+-- what a defined entry says fits its depth
 pub record Says (depth : ℕ) (entry : Entry) : Type 0 where
   pub at-depth : (depth ≡ 16) ⊎ (depth ≡ 32)
+  pub low-lt : entry .low < 32
   pub within : entry .low + widthsOf (entry .format) .bits ≤ depth
   pub in-bank : hasBank (entry .format) (entry .bank) ≡ true
 
@@ -35,6 +37,9 @@ module _ (depth buffer : ℕ) where
 
   low-le : lowOf depth buffer ≤ depth / 2
   low-le = low-by (eqb buffer 0)
+
+  low-lt-32 : (depth ≡ 16) ⊎ (depth ≡ 32) → lowOf depth buffer < 32
+  low-lt-32 at = ⊎-elim (λ e. omega (arith, low-le)) (λ e. omega (arith, low-le)) at
 
   low-of-0 : eqb buffer 0 ≡ true → lowOf depth buffer ≡ 0
   low-of-0 e = rw e
@@ -52,24 +57,24 @@ module _ (depth buffer : ℕ) where
   depth-by format false true h w e = inr (eqb-true depth 32 w)
   depth-by format false false h w e = impossible (cc)
 
-  depths : (format : Format) → hasDepth (partAt depth format) ≡ true → (depth ≡ 16) ⊎ (depth ≡ 32)
+  depths : (format : Format) → hasDepth (partAt format depth) ≡ true → (depth ≡ 16) ⊎ (depth ≡ 32)
   unfolding partAt
   depths format e = depth-by format (eqb depth 16) (eqb depth 32) refl refl e
 
-  lies-within : (format : Format) → (depth ≡ 16) ⊎ (depth ≡ 32) → hasBuffer (partAt depth format) buffer ≡ true
+  lies-within : (format : Format) → (depth ≡ 16) ⊎ (depth ≡ 32) → hasBuffer (partAt format depth) buffer ≡ true
       → lowOf depth buffer + widthsOf format .bits ≤ depth
   lies-within format at e =
       let bits = widthsOf format .bits in
       within-by bits (leb bits (depth / 2)) (leb bits depth) refl refl (rw (part-fitting format depth at) at e)
 
-module _ (depth number : ℕ) where
+module _ (number depth : ℕ) where
   says-by : (format : Format) {entry : Entry} (a b c : Bool)
-      → hasDepth (partAt depth format) ≡ a → hasBuffer (partAt depth format) (field number 0 0) ≡ b → hasBank format (field number 8 4) ≡ c
-      → cond (not a) Undefined (cond (not b) Undefined (cond (not c) Undefined (Defined (said depth number format)))) ≡ Defined entry → Says depth entry
+      → hasDepth (partAt format depth) ≡ a → hasBuffer (partAt format depth) (field number 0 0) ≡ b → hasBank format (field number 8 4) ≡ c
+      → cond (not a) Undefined (cond (not b) Undefined (cond (not c) Undefined (Defined (said number depth format)))) ≡ Defined entry → Says depth entry
   says-by format {entry} true true true a b c e =
-      let same : said depth number format ≡ entry = cc in
+      let same : said number depth format ≡ entry = cc in
       let at = depths depth 0 format a in
-      rw (← same) (record { at-depth = at; within = lies-within depth (field number 0 0) format at b; in-bank = c })
+      rw (← same) (record { at-depth = at; low-lt = low-lt-32 depth (field number 0 0) at; within = lies-within depth (field number 0 0) format at b; in-bank = c })
   says-by format {entry} true true false a b c e = impossible (cc)
   says-by format {entry} true false c a b h e = impossible (cc)
   says-by format {entry} false b c a h g e = impossible (cc)
@@ -77,20 +82,20 @@ module _ (depth number : ℕ) where
   -- the tests that follow the format
   abbrev tested : Format → Decoded
   tested format =
-      cond (not (hasDepth (partAt depth format))) Undefined
-      (cond (not (hasBuffer (partAt depth format) (field number 0 0))) Undefined
-      (cond (not (hasBank format (field number 8 4))) Undefined (Defined (said depth number format))))
+      cond (not (hasDepth (partAt format depth))) Undefined
+      (cond (not (hasBuffer (partAt format depth) (field number 0 0))) Undefined
+      (cond (not (hasBank format (field number 8 4))) Undefined (Defined (said number depth format))))
 
   says-as : {entry : Entry} (named : Numbered) → withFormat named tested ≡ Defined entry → Says depth entry
   says-as {entry} NoFormat e = impossible (cc)
   says-as {entry} (Is format) e =
-      says-by format (hasDepth (partAt depth format)) (hasBuffer (partAt depth format) (field number 0 0)) (hasBank format (field number 8 4)) refl refl refl e
+      says-by format (hasDepth (partAt format depth)) (hasBuffer (partAt format depth) (field number 0 0)) (hasBank format (field number 8 4)) refl refl refl e
 
   spare-by : {entry : Entry} (clear : Bool) → cond (not clear) Undefined (withFormat (numbered (field number 3 1)) tested) ≡ Defined entry → Says depth entry
   spare-by true e = says-as (numbered (field number 3 1)) e
   spare-by {entry} false e = impossible (cc)
 
-  pub defined-says : {entry : Entry} → decoded depth number ≡ Defined entry → Says depth entry
+  pub defined-says : {entry : Entry} → decoded number depth ≡ Defined entry → Says depth entry
   unfolding decoded
   defined-says e = spare-by (eqb (field number 12 11) 0) e
 

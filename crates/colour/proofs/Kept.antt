@@ -5,8 +5,8 @@ use lib.Dec.{lit≤}
 use Rattle.words.proofs.LowBits.{bits-of-low}
 use Rattle.colour.specs.Entry.{decoded}
 
-pub decoded-kept : (depth entry : ℕ) → decoded depth (entry % 2 ^ 13) ≡ decoded depth entry
+pub decoded-kept : (entry depth : ℕ) → decoded (entry % 2 ^ 13) depth ≡ decoded entry depth
 unfolding decoded
-decoded-kept depth entry =
+decoded-kept entry depth =
     simp
     (bits-of-low entry 13 0 1 (lit≤ tt), bits-of-low entry 13 1 3 (lit≤ tt), bits-of-low entry 13 4 5 (lit≤ tt), bits-of-low entry 13 9 1 (lit≤ tt), bits-of-low entry 13 10 1 (lit≤ tt), bits-of-low entry 13 11 2 (lit≤ tt))

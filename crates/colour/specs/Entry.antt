@@ -17,7 +17,7 @@ lowOf depth buffer = cond (eqb buffer 0) 0 (depth / 2)
 
 -- what a defined entry of this format says
 abbrev pub said : ℕ → ℕ → Format → Entry
-said depth entry format =
+said entry depth format =
     record {
       format = format;
       low = lowOf depth (field entry 0 0);
@@ -33,13 +33,13 @@ withFormat (Is format) next = next format
 
 -- an entry is tested for its spare bits, its format, its depth, its buffer and its bank, in this order
 unfoldable pub decoded : ℕ → ℕ → Decoded
-decoded depth entry =
+decoded entry depth =
     cond (not (eqb (field entry 12 11) 0)) Undefined
     (withFormat (numbered (field entry 3 1)) (λ format.
-    cond (not (hasDepth (partAt depth format))) Undefined
-    (cond (not (hasBuffer (partAt depth format) (field entry 0 0))) Undefined
+    cond (not (hasDepth (partAt format depth))) Undefined
+    (cond (not (hasBuffer (partAt format depth) (field entry 0 0))) Undefined
     (cond (not (hasBank format (field entry 8 4))) Undefined
-    (Defined (said depth entry format))))))
+    (Defined (said entry depth format))))))
 
 -- whether an entry is defined at a depth
 unfoldable pub isDefined : Decoded → Bool

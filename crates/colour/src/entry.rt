@@ -22,6 +22,7 @@ pub struct Entry {
     pub overlay: bool,
 }
 
+// What an entry says, or that it is undefined.
 pub enum Decoded {
     Defined(Entry),
     Undefined,
@@ -42,7 +43,7 @@ fn low_bit(depth: u32, buffer: u32) -> u32
 
 // What an entry says at a depth.
 pub fn decode(entry: u32, depth: u32) -> Decoded
-    ensures { λ r. ⌜ r ≡ decoded depth entry ⌝ }
+    ensures { λ r. ⌜ r ≡ decoded entry depth ⌝ }
 {
     let buffer = words::field(entry, 0, 0);
     let number = words::field(entry, 3, 1);

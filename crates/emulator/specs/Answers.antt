@@ -10,7 +10,7 @@ number false = 0
 
 -- whether an entry, of which the low 13 bits count, is defined at a depth
 unfoldable pub entryDefined : ℕ → ℕ → ℕ
-entryDefined entry depth = number (isDefined (decoded depth (entry % 2 ^ 13)))
+entryDefined entry depth = number (isDefined (decoded (entry % 2 ^ 13) depth))
 
 -- whether a signal holds at p, by its window from on to off
 unfoldable pub signalHolds : ℕ → ℕ → ℕ → ℕ

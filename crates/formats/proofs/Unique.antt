@@ -13,6 +13,9 @@ use Rattle.formats.proofs.Format.from_number.Reads as from-number
 use Rattle.formats.proofs.Format.widths.Reads as widths
 use Rattle.formats.proofs.Format.has_bank.Reads as has-bank
 use Rattle.formats.proofs.Format.part.Reads as part
+use Rattle.formats.proofs.channel.widen.Reads as widen
+use Rattle.formats.proofs.channel.channel.Reads as channel
+use Rattle.formats.proofs.channel.colour.Reads as channel-colour
 
 pub index8-map-entry-unique : OneAnswer index8-map-entry.Post
 index8-map-entry-unique = by-equation _ _
@@ -49,3 +52,12 @@ has-bank-unique = by-equation _ _
 
 pub part-unique : OneAnswer part.Post
 part-unique = by-equation _ _
+
+pub widen-unique : OneAnswer widen.Post
+widen-unique = by-equation _ _
+
+pub channel-unique : OneAnswer channel.Post
+channel-unique = by-equation _ _
+
+pub channel-colour-unique : OneAnswer channel-colour.Post
+channel-colour-unique = by-equation _ _

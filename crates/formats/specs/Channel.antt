@@ -5,24 +5,24 @@ use Rattle.words.specs.declared.Rgb.{Rgb}
 
 -- a number of `width` bits, `count` times over, one behind the other
 abbrev pub repeated : ℕ → ℕ → ℕ → ℕ
-repeated width value zero = 0
-repeated width value (suc count) = repeated width value count * 2 ^ width + value
+repeated value width zero = 0
+repeated value width (suc count) = repeated value width count * 2 ^ width + value
 
 -- the first 8 of the repeated bits
 unfoldable pub widened : ℕ → ℕ → ℕ
-widened width value = repeated width value 8 / 2 ^ (8 * width - 8)
+widened value width = repeated value width 8 / 2 ^ (8 * width - 8)
 
 -- bit i from the top of a number of `width` bits, the top one being bit 0
 abbrev pub fromTop : ℕ → ℕ → ℕ → ℕ
-fromTop width value i = value / 2 ^ (width - 1 - i) % 2
+fromTop value width i = value / 2 ^ (width - 1 - i) % 2
 
 -- the channel of a sample that has `width` bits, from bit `low` up
 abbrev pub channel : ℕ → ℕ → ℕ → ℕ
-channel sample low width = widened width (bits sample low width)
+channel sample low width = widened (bits sample low width) width
 
 -- the colour of a sample whose channels have these widths: red lowest, then green, then blue
 abbrev pub colourOf : ℕ → ℕ → ℕ → ℕ → Rgb
-colourOf red green blue sample =
+colourOf sample red green blue =
     record {
       red = channel sample 0 red;
       green = channel sample red green;

@@ -30,8 +30,8 @@ pub record Row : Type 0 where
   pub at32 : Part
 
 abbrev row : ℕ → ℕ → ℕ → ℕ → Part → Part → Row
-row bits red green blue at16 at32 =
-    record { widths = record { bits = bits; red = red; green = green; blue = blue }; at16 = at16; at32 = at32 }
+row used red green blue at16 at32 =
+    record { widths = record { bits = used; red = red; green = green; blue = blue }; at16 = at16; at32 = at32 }
 
 --                    bits, red green blue, depth 16, depth 32
 abbrev pub rowOf : Format → Row
@@ -46,8 +46,8 @@ abbrev pub widthsOf : Format → Widths
 widthsOf format = rowOf format .widths
 
 -- at a depth other than 16 or 32 nothing is listed
-unfoldable pub partAt : ℕ → Format → Part
-partAt depth format = cond (eqb depth 16) (rowOf format .at16) (cond (eqb depth 32) (rowOf format .at32) Unlisted)
+unfoldable pub partAt : Format → ℕ → Part
+partAt format depth = cond (eqb depth 16) (rowOf format .at16) (cond (eqb depth 32) (rowOf format .at32) Unlisted)
 
 -- a depth that the table lists
 abbrev pub hasDepth : Part → Bool
@@ -76,4 +76,4 @@ valueOf format sample = bits sample 0 (widthsOf format .bits)
 
 -- the colour of a sample with channels
 abbrev pub colourIn : Format → ℕ → Rgb
-colourIn format sample = colourOf (widthsOf format .red) (widthsOf format .green) (widthsOf format .blue) sample
+colourIn format sample = colourOf sample (widthsOf format .red) (widthsOf format .green) (widthsOf format .blue)

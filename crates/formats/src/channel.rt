@@ -7,7 +7,7 @@ use words::Rgb;
 // A channel of a few bits as 8 bits: its bits repeated from the top.
 pub fn widen(value: u32, width: u32) -> u8
     requires { ⌜ (1 ≤ width) × (width ≤ 8) × (value < 2 ^ width) ⌝ }
-    ensures { λ r. ⌜ r ≡ widened width value ⌝ }
+    ensures { λ r. ⌜ r ≡ widened value width ⌝ }
 {
     let one = value as u64;
     let two = (one << width) | one;
@@ -27,7 +27,7 @@ pub fn channel(sample: u32, low: u32, width: u32) -> u8
 // The colour of a sample whose channels have these widths, red lowest.
 pub fn colour(sample: u32, red: u32, green: u32, blue: u32) -> Rgb
     requires { ⌜ (1 ≤ red) × (red ≤ 8) × (1 ≤ green) × (green ≤ 8) × (1 ≤ blue) × (blue ≤ 8) ⌝ }
-    ensures { λ r. ⌜ r ≡ colourOf red green blue sample ⌝ }
+    ensures { λ r. ⌜ r ≡ colourOf sample red green blue ⌝ }
 {
     Rgb {
         red: channel(sample, 0, red),

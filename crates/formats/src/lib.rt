@@ -165,6 +165,7 @@ impl Part {
     }
 }
 
+// The formats that the table lists.
 pub enum Format {
     Index8,
     Index12,
@@ -256,7 +257,7 @@ impl Format {
 
     // How much of a pixel the format uses at a depth: a half where its bits fit one, else the whole where they fit that.
     pub fn part(self, depth: u32) -> Part
-        ensures { λ r. ⌜ r ≡ partAt depth self ⌝ }
+        ensures { λ r. ⌜ r ≡ partAt self depth ⌝ }
     {
         let bits = self.widths().bits;
         match depth {

@@ -4,10 +4,10 @@ use mathlib.Core.Path.{_≡_, refl, sym, ap, subst}
 use mathlib.Core.Bool.{Bool, true, false, cond}
 use mathlib.Core.List.{List, [], _∷_, List·Memᴰ, List·Memᴰ·cases-cons, List·Memᴰ·not-nil}
 use mathlib.Core.Logic.{⊎-elim}
-use Rattle.rules.proofs.Impossible.{impossible}
+use Rattle.rules.proofs.Cases.{impossible}
 use Rattle.rules.specs.Rule.{Rule, done, stop, ask, refused, run, reads, _>>=_, within}
 use Rattle.rules.specs.Each.{each, eachOf}
-use Rattle.rules.specs.Asks.{Asks, Never}
+use Rattle.rules.specs.Asks.{Asks, NeverRefuses}
 
 module _ {R Q A : Type 0} (Allowed : Q → Type 0) (memory : Q → ℕ) where
   -- what is read is allowed
@@ -21,7 +21,7 @@ module _ {R Q A : Type 0} (Allowed : Q → Type 0) (memory : Q → ℕ) where
       (List·Memᴰ·cases-cons here)
 
 module _ {R Q A : Type 0} (memory : Q → ℕ) where
-  pub never-refused : (rule : Rule R Q A) {refusal : R} → Never rule → run memory rule ≡ refused refusal → ⊥
+  pub never-refused : (rule : Rule R Q A) {refusal : R} → NeverRefuses rule → run memory rule ≡ refused refusal → ⊥
   never-refused (done answer) never e = impossible (cc)
   never-refused (stop refusal) never e = never
   never-refused (ask cell on) never e = never-refused (on (memory cell)) (never (memory cell)) e
@@ -33,13 +33,13 @@ module _ {R Q A B : Type 0} where
   asks-then Allowed (stop refusal) after asks asks-after = tt
   asks-then Allowed (ask cell on) after asks asks-after = (asks .0, λ held. asks-then Allowed (on held) after (asks .1 held) asks-after)
 
-  pub never-then : (rule : Rule R Q A) (after : A → Rule R Q B) → Never rule → ((a : A) → Never (after a)) → Never (rule >>= after)
+  pub never-then : (rule : Rule R Q A) (after : A → Rule R Q B) → NeverRefuses rule → ((a : A) → NeverRefuses (after a)) → NeverRefuses (rule >>= after)
   never-then (done answer) after never never-after = never-after answer
   never-then (stop refusal) after never never-after = never
   never-then (ask cell on) after never never-after = λ held. never-then (on held) after (never held) never-after
 
   -- a rule, and then one that never refuses: where the whole is refused, it has read what the first one reads
-  pub refused-reads : (memory : Q → ℕ) (rule : Rule R Q A) (after : A → Rule R Q B) → ((a : A) → Never (after a))
+  pub refused-reads : (memory : Q → ℕ) (rule : Rule R Q A) (after : A → Rule R Q B) → ((a : A) → NeverRefuses (after a))
       → {refusal : R} → run memory (rule >>= after) ≡ refused refusal → reads memory (rule >>= after) ≡ reads memory rule
   refused-reads memory (done answer) after never e = absurd (never-refused memory (after answer) (never answer) e)
   refused-reads memory (stop refusal) after never e = refl
@@ -52,7 +52,7 @@ module _ {R Q A : Type 0} where
   asks-cond Allowed true yes-rule no-rule asks-yes asks-no = asks-yes
   asks-cond Allowed false yes-rule no-rule asks-yes asks-no = asks-no
 
-  pub never-cond : (test : Bool) (yes-rule no-rule : Rule R Q A) → Never yes-rule → Never no-rule → Never (cond test yes-rule no-rule)
+  pub never-cond : (test : Bool) (yes-rule no-rule : Rule R Q A) → NeverRefuses yes-rule → NeverRefuses no-rule → NeverRefuses (cond test yes-rule no-rule)
   never-cond true yes-rule no-rule never-yes never-no = never-yes
   never-cond false yes-rule no-rule never-yes never-no = never-no
 
@@ -69,8 +69,8 @@ module _ {R Q A : Type 0} where
       asks-then Allowed (rule from) _ (asks from)
       (λ a. asks-then Allowed (each rule count (suc from)) _ (asks-each Allowed rule asks count (suc from)) (λ l. tt))
 
-  pub never-each-of : {B : Type 0} (rule : B → ℕ → Rule R Q A) → ((b : B) (x : ℕ) → Never (rule b x))
-      → (found : List B) (from : ℕ) → Never (eachOf rule found from)
+  pub never-each-of : {B : Type 0} (rule : B → ℕ → Rule R Q A) → ((b : B) (x : ℕ) → NeverRefuses (rule b x))
+      → (found : List B) (from : ℕ) → NeverRefuses (eachOf rule found from)
   never-each-of rule never [] from = tt
   never-each-of rule never (b ∷ others) from =
       never-then (rule b from) _ (never b from)

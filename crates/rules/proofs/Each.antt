@@ -1,24 +1,16 @@
 -- A pass over positions that stops at the first refusal: the laws of a loop that makes it, and what it reads. Assumes nothing.
 use Prim.Native.Nat.{ℕ, zero, suc, _+_, _≤_, _<_}
 use mathlib.Core.Path.{_≡_, refl, sym, ap, _∙_}
+use mathlib.Core.Logic.{_⊎_, ⊎-elim}
 use mathlib.Core.List.{List, [], _∷_, _++_, append-nil}
 use native.Mathlib.Omega.{arith}
-use native.Mathlib.Nat.{add-zero, zero-add, add-suc, suc-add, not-suc-le-zero}
+use native.Mathlib.Nat.{add-zero, zero-add, add-suc, suc-add, not-suc-le-zero, eq-or-lt-of-le}
 use borrow.Author.Count.{below-none, below-more}
-use lib.ListN.{length, getD}
-use Rattle.rules.specs.Rule.{Rule, done, Outcome, ok, refused, run, reads, _>>=_, nextReads}
-use Rattle.rules.specs.Each.{values, joined, each, eachOf}
+use Rattle.rules.specs.Rule.{Rule, done, Outcome, ok, refused, run, reads, _>>=_, andThenReads}
+use Rattle.rules.specs.Lists.{values, joined}
+use Rattle.rules.specs.Each.{each, eachOf}
+use Rattle.rules.proofs.Cases.{le-or-lt}
 use Rattle.rules.proofs.Then.{run-ok, run-refused, reads-then, reads-ok, reads-refused}
-
-module _ {A : Type 0} (at : ℕ → A) where
-  pub length-values : (count from : ℕ) → length (values at count from) ≡ count
-  length-values zero from = refl
-  length-values (suc count) from = ap suc (length-values count (suc from))
-
-  pub getD-values : (count from i : ℕ) (other : A) → i < count → getD (values at count from) i other ≡ at (from + i)
-  getD-values zero from i other h = absurd (not-suc-le-zero h)
-  getD-values (suc count) from zero other h = rw add-zero
-  getD-values (suc count) from (suc i) other h = getD-values count (suc from) i other (omega arith) ∙ rw (suc-add, add-suc)
 
 module _ {R Q A : Type 0} (memory : Q → ℕ) (rule : ℕ → Rule R Q A) (value : ℕ → A) where
   -- the positions from `from` on, `count` of them, all answer, each what `value` says
@@ -53,39 +45,6 @@ module _ {R Q A : Type 0} (memory : Q → ℕ) (rule : ℕ → Rule R Q A) (valu
       ∙ run-refused memory (each rule count (suc from)) _
       (each-stop d count (suc from) (omega arith) (later d from answers) (stops-later d from stops))
 
-  -- what each position reads, one after another
-  abbrev pub readsFrom : ℕ → ℕ → List Q
-  readsFrom count from = joined (values (λ i. reads memory (rule i)) count from)
-
-  reads-more : (count from : ℕ) → run memory (rule from) ≡ ok (value from)
-      → reads memory (each rule (suc count) from) ≡ reads memory (rule from) ++ reads memory (each rule count (suc from))
-  reads-more count from e =
-      reads-ok memory (rule from) _ e
-      ∙ ap (λ (cells : List Q). reads memory (rule from) ++ cells)
-      (reads-then memory (each rule count (suc from)) _ ∙ no-more (reads memory (each rule count (suc from))) (run memory (each rule count (suc from))))
-    where
-      no-more : (cells : List Q) (o : Outcome R (List A)) → cells ++ nextReads o (λ l. []) ≡ cells
-      no-more cells (ok l) = append-nil cells
-      no-more cells (refused r) = append-nil cells
-
-  pub each-reads : (count from : ℕ) → Answers count from → reads memory (each rule count from) ≡ readsFrom count from
-  each-reads zero from answers = refl
-  each-reads (suc count) from answers =
-      reads-more count from (here count from answers)
-      ∙ ap (λ (cells : List Q). reads memory (rule from) ++ cells) (each-reads count (suc from) (later count from answers))
-
-  -- a pass that is refused has read up to that position and no further
-  pub each-reads-stop : (d count from : ℕ) {refusal : R} → d < count → Answers d from
-      → run memory (rule (from + d)) ≡ refused refusal → reads memory (each rule count from) ≡ readsFrom (suc d) from
-  each-reads-stop zero zero from h answers stops = absurd (not-suc-le-zero h)
-  each-reads-stop (suc d) zero from h answers stops = absurd (not-suc-le-zero h)
-  each-reads-stop zero (suc count) from h answers stops =
-      reads-refused memory (rule from) _ (rw add-zero at stops) ∙ sym (append-nil (reads memory (rule from)))
-  each-reads-stop (suc d) (suc count) from h answers stops =
-      reads-more count from (here d from answers)
-      ∙ ap (λ (cells : List Q). reads memory (rule from) ++ cells)
-      (each-reads-stop d count (suc from) (omega arith) (later d from answers) (stops-later d from stops))
-
   -- a loop that makes the pass is at `at` of `count`, and every position before it answered
   pub record Passing (count at : ℕ) : Type 0 where
     pub in-range : at ≤ count
@@ -98,15 +57,104 @@ module _ {R Q A : Type 0} (memory : Q → ℕ) (rule : ℕ → Rule R Q A) (valu
   answers-before pass = λ i low high. pass .answered i (omega arith)
 
   module _ {count at : ℕ} (pass : Passing count at) where
-    module _ (more : at < count) where
-      pub pass-next : run memory (rule at) ≡ ok (value at) → Passing count (at + 1)
-      pass-next e = record { in-range = omega arith; answered = below-more _ _ (pass .answered) e }
+    -- one position on
+    pub pass-next : at < count → run memory (rule at) ≡ ok (value at) → Passing count (at + 1)
+    pass-next more e = record { in-range = omega arith; answered = below-more _ _ (pass .answered) e }
 
-      pub pass-found : {refusal : R} → run memory (rule at) ≡ refused refusal → run memory (each rule count 0) ≡ refused refusal
-      pass-found e = each-stop at count 0 more (answers-before pass) (rw zero-add e)
+    -- a run of positions on
+    pub pass-run : (length : ℕ) → at + length ≤ count → Answers length at → Passing count (at + length)
+    pass-run length fits answers = record { in-range = fits; answered = λ i h. in-either i h (le-or-lt at i) }
+      where
+        in-either : (i : ℕ) → i < at + length → (at ≤ i) ⊎ (i < at) → run memory (rule i) ≡ ok (value i)
+        in-either i h side = ⊎-elim (λ low. answers i low h) (λ before. pass .answered i before) side
+
+    pub pass-found : {refusal : R} → at < count → run memory (rule at) ≡ refused refusal → run memory (each rule count 0) ≡ refused refusal
+    pass-found more e = each-stop at count 0 more (answers-before pass) (rw zero-add e)
 
     pub pass-over : count ≤ at → run memory (each rule count 0) ≡ ok (values value count 0)
     pass-over all = each-ok count 0 (λ i low high. pass .answered i (omega arith))
+
+module _ {R Q A : Type 0} (memory : Q → ℕ) (rule : ℕ → Rule R Q A) where
+  -- the positions from `from` on, `count` of them, all answer
+  abbrev pub Fine : ℕ → ℕ → Type 0
+  Fine count from = (i : ℕ) → from ≤ i → i < from + count → (answer : A) × (run memory (rule i) ≡ ok answer)
+
+  -- what each position reads, one after another
+  abbrev pub readsFrom : ℕ → ℕ → List Q
+  readsFrom count from = joined (values (λ i. reads memory (rule i)) count from)
+
+  -- what it tells that a pass answers
+  pub record Answered (count from : ℕ) : Type 0 where
+    pub fine : Fine count from
+    pub read : reads memory (each rule count from) ≡ readsFrom count from
+
+  -- what it tells that a pass is refused: the first position that refuses, `passed` positions on, and nothing is read beyond it
+  pub record Stopped (count from : ℕ) (refusal : R) : Type 0 where
+    pub passed : ℕ
+    pub below : passed < count
+    pub fine : Fine passed from
+    pub stops : run memory (rule (from + passed)) ≡ refused refusal
+    pub read : reads memory (each rule count from) ≡ readsFrom (suc passed) from
+
+  abbrev pub Told : ℕ → ℕ → Outcome R (List A) → Type 0
+  Told count from (ok answers) = Answered count from
+  Told count from (refused refusal) = Stopped count from refusal
+
+  module _ (count from : ℕ) where
+    told-stop : {refusal : R} → run memory (rule from) ≡ refused refusal → Told (suc count) from (run memory (each rule (suc count) from))
+    told-stop {refusal} e =
+        rw (run-refused memory (rule from) _ e)
+        (record {
+          passed = 0;
+          below = omega arith;
+          fine = λ i low high. absurd (omega arith);
+          stops = rw add-zero e;
+          read = reads-refused memory (rule from) _ e ∙ sym (append-nil (reads memory (rule from)));
+        })
+
+    module _ {answer : A} (e : run memory (rule from) ≡ ok answer) where
+      no-more : (cells : List Q) (o : Outcome R (List A)) → cells ++ andThenReads o (λ l. []) ≡ cells
+      no-more cells (ok l) = append-nil cells
+      no-more cells (refused r) = append-nil cells
+
+      reads-more : reads memory (each rule (suc count) from) ≡ reads memory (rule from) ++ reads memory (each rule count (suc from))
+      reads-more =
+          reads-ok memory (rule from) _ e
+          ∙ ap (λ (cells : List Q). reads memory (rule from) ++ cells)
+          (reads-then memory (each rule count (suc from)) _
+          ∙ no-more (reads memory (each rule count (suc from))) (run memory (each rule count (suc from))))
+
+      fine-more : (passed : ℕ) → Fine passed (suc from) → Fine (suc passed) from
+      fine-more passed beyond =
+          λ i low high. ⊎-elim (λ same. (answer, rw same at e)) (λ above. beyond i above (omega arith)) (eq-or-lt-of-le low)
+
+      told-rest : (o : Outcome R (List A)) → run memory (each rule count (suc from)) ≡ o → Told count (suc from) o
+          → Told (suc count) from (run memory (each rule (suc count) from))
+      told-rest (ok answers) h beyond =
+          rw (run-ok memory (rule from) _ e, run-ok memory (each rule count (suc from)) _ h)
+          (record {
+            fine = fine-more count (beyond .fine);
+            read = reads-more ∙ ap (λ (cells : List Q). reads memory (rule from) ++ cells) (beyond .read);
+          })
+      told-rest (refused refusal) h beyond =
+          rw (run-ok memory (rule from) _ e, run-refused memory (each rule count (suc from)) _ h)
+          (record {
+            passed = suc (beyond .passed);
+            below = omega (arith, beyond .below);
+            fine = fine-more (beyond .passed) (beyond .fine);
+            stops = rw (add-suc, ← suc-add) (beyond .stops);
+            read = reads-more ∙ ap (λ (cells : List Q). reads memory (rule from) ++ cells) (beyond .read);
+          })
+
+    told-here : (o : Outcome R A) → run memory (rule from) ≡ o → Told count (suc from) (run memory (each rule count (suc from)))
+        → Told (suc count) from (run memory (each rule (suc count) from))
+    told-here (refused refusal) e beyond = told-stop e
+    told-here (ok answer) e beyond = told-rest e (run memory (each rule count (suc from))) refl beyond
+
+  -- what the outcome of a pass tells
+  pub each-told : (count from : ℕ) → Told count from (run memory (each rule count from))
+  each-told zero from = record { fine = λ i low high. absurd (omega arith); read = refl }
+  each-told (suc count) from = told-here count from (run memory (rule from)) refl (each-told count (suc from))
 
 -- a second pass over what a first one found is a pass over the positions, so the laws of `each` are its laws
 pub each-of-values : {R Q A B : Type 0} (rule : B → ℕ → Rule R Q A) (found : ℕ → B) (count from : ℕ)

@@ -5,9 +5,8 @@ use mathlib.Core.List.{List, [], _∷_}
 use native.Mathlib.Omega.{arith}
 use native.Mathlib.Nat.{add-zero, add-suc, suc-add, not-suc-le-zero}
 use native.Mathlib.Numerals.{add-one}
-use lib.ListN.{length, set, length-append, length-drop, length-set}
-use Rattle.rules.specs.Each.{filled}
-use Rattle.rules.proofs.Each.{length-values}
+use lib.ListN.{length, set, length-set}
+use Rattle.rules.specs.Lists.{filled}
 
 module _ {A : Type 0} (at : ℕ → A) where
   one-more : (count from : ℕ) (room : List A) → count < length room
@@ -16,9 +15,6 @@ module _ {A : Type 0} (at : ℕ → A) where
   one-more zero from (a ∷ room) h = rw add-zero
   one-more (suc count) from (a ∷ room) h =
       ap {B = List A} (λ r. at from ∷ r) (rw (add-suc, ← suc-add) (one-more count (suc from) room (omega arith)))
-
-  pub length-filled : (from : ℕ) (room : List A) (count : ℕ) → count ≤ length room → length (filled at from room count) ≡ length room
-  length-filled from room count h = simp (length-append, length-values, length-drop) (omega arith)
 
 -- `now` is what a loop that fills the first `count` elements of `room` has made of it before its turn `i`
 pub record Filling {A : Type 0} (at : ℕ → A) (from count : ℕ) (room now : List A) (i : ℕ) : Type 0 where

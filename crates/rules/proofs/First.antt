@@ -7,10 +7,10 @@ use mathlib.Core.Logic.{⊎-elim}
 use native.Mathlib.Omega.{arith}
 use native.Mathlib.Nat.{sub-zero, sub-self, eq-or-lt-of-le}
 use native.Mathlib.Numerals.{add-one}
-use Rattle.rules.proofs.Impossible.{impossible}
+use Rattle.rules.proofs.Cases.{impossible}
 use Rattle.rules.specs.Rule.{done, ok, refused, run, reads}
 use Rattle.rules.specs.First.{firstFrom, first}
-use Rattle.rules.specs.Each.{values}
+use Rattle.rules.specs.Lists.{values}
 use Rattle.rules.proofs.Then.{run-cond, reads-cond}
 
 module _ {R Q : Type 0} (missing : R) (cell : ℕ → Q) (passes : ℕ → Bool) (memory : Q → ℕ) where
@@ -43,6 +43,12 @@ module _ {R Q : Type 0} (missing : R) (cell : ℕ → Q) (passes : ℕ → Bool)
 
     pub seek-found : passes held ≡ true → run memory (first missing cell passes count) ≡ ok at
     seek-found test = sym (rw (one-more count at more, step (count - (at + 1)) at, ← e, test) at (here .rest))
+
+  -- a loop may start further on, where none before passes
+  pub seek-from : (count at : ℕ) → at ≤ count → ((i : ℕ) → i < at → passes (memory (cell i)) ≡ false) → Seeking count at
+  seek-from count zero fits failed = seek-start count
+  seek-from count (suc at) fits failed =
+      rw (add-one at) at (seek-next (seek-from count at (omega arith) (λ i h. failed i (omega arith))) (omega arith) refl (failed at (omega arith)))
 
   pub seek-over : {count at : ℕ} → Seeking count at → count ≤ at → run memory (first missing cell passes count) ≡ refused missing
   seek-over {count} {at} here all = sym (rw (none-left count at all) at (here .rest))
@@ -95,22 +101,24 @@ module _ {R Q : Type 0} (missing : R) (cell : ℕ → Q) (passes : ℕ → Bool)
       by-test count from (passes (memory (cell from))) refl (sym (step count from) ∙ e) (found-from count (suc from))
 
   -- what it tells that the search from `from` on finds nothing
-  pub record Missing (count from : ℕ) : Type 0 where
+  pub record Missing (count from : ℕ) (refusal : R) : Type 0 where
+    pub named : refusal ≡ missing
     pub failed : (i : ℕ) → from ≤ i → i < from + count → passes (memory (cell i)) ≡ false
     pub read : reads memory (firstFrom missing cell passes count from) ≡ values cell count from
 
   missing-by : (count from : ℕ) {refusal : R} (test : Bool) → passes (memory (cell from)) ≡ test
       → cond test (ok from) (run memory (firstFrom missing cell passes count (suc from))) ≡ refused refusal
-      → (run memory (firstFrom missing cell passes count (suc from)) ≡ refused refusal → Missing count (suc from)) → Missing (suc count) from
+      → (run memory (firstFrom missing cell passes count (suc from)) ≡ refused refusal → Missing count (suc from) refusal) → Missing (suc count) from refusal
   missing-by count from {refusal} true test e later = impossible (cc)
   missing-by count from {refusal} false test e later =
-      let rest : Missing count (suc from) = later e in
+      let rest : Missing count (suc from) refusal = later e in
       record {
+        named = rest .named;
         failed = λ i low high. ⊎-elim (λ same. rw same at test) (λ above. rest .failed i above (omega arith)) (eq-or-lt-of-le low);
         read = reads-step count from false test ∙ ap (λ (cells : List Q). cell from ∷ cells) (rest .read);
       }
 
-  pub missing-from : (count from : ℕ) {refusal : R} → run memory (firstFrom missing cell passes count from) ≡ refused refusal → Missing count from
-  missing-from zero from e = record { failed = λ i low high. absurd (omega arith); read = refl }
+  pub missing-from : (count from : ℕ) {refusal : R} → run memory (firstFrom missing cell passes count from) ≡ refused refusal → Missing count from refusal
+  missing-from zero from {refusal} e = record { named = cc; failed = λ i low high. absurd (omega arith); read = refl }
   missing-from (suc count) from e =
       missing-by count from (passes (memory (cell from))) refl (sym (step count from) ∙ e) (missing-from count (suc from))

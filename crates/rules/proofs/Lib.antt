@@ -1,7 +1,8 @@
-pub mod Impossible
+pub mod Cases
 pub mod Rests
 pub mod Then
 pub mod First
+pub mod Lists
 pub mod Each
 pub mod Fill
 pub mod Asks

@@ -3,35 +3,35 @@ use Prim.Native.Nat.{ℕ}
 use mathlib.Core.Bool.{Bool, true, false, cond}
 use mathlib.Core.Path.{_≡_, refl, ap, _∙_}
 use mathlib.Core.List.{List, _∷_, _++_, map, append-nil}
-use Rattle.rules.specs.Rule.{Rule, done, stop, ask, Outcome, ok, refused, run, reads, _>>=_, next, nextReads, within, renamed}
+use Rattle.rules.specs.Rule.{Rule, done, stop, ask, Outcome, ok, refused, run, reads, _>>=_, andThen, andThenReads, within, renamed}
 
 module _ {R Q A B : Type 0} (memory : Q → ℕ) where
-  pub run-then : (rule : Rule R Q A) (after : A → Rule R Q B) → run memory (rule >>= after) ≡ next (run memory rule) (λ a. run memory (after a))
+  pub run-then : (rule : Rule R Q A) (after : A → Rule R Q B) → run memory (rule >>= after) ≡ andThen (run memory rule) (λ a. run memory (after a))
   run-then (done answer) after = refl
   run-then (stop refusal) after = refl
   run-then (ask cell on) after = run-then (on (memory cell)) after
 
   pub reads-then : (rule : Rule R Q A) (after : A → Rule R Q B)
-      → reads memory (rule >>= after) ≡ reads memory rule ++ nextReads (run memory rule) (λ a. reads memory (after a))
+      → reads memory (rule >>= after) ≡ reads memory rule ++ andThenReads (run memory rule) (λ a. reads memory (after a))
   reads-then (done answer) after = refl
   reads-then (stop refusal) after = refl
   reads-then (ask cell on) after = ap (λ (cells : List Q). cell ∷ cells) (reads-then (on (memory cell)) after)
 
   module _ (rule : Rule R Q A) (after : A → Rule R Q B) where
     pub run-ok : {answer : A} → run memory rule ≡ ok answer → run memory (rule >>= after) ≡ run memory (after answer)
-    run-ok e = run-then rule after ∙ ap (λ (o : Outcome R A). next o (λ a. run memory (after a))) e
+    run-ok e = run-then rule after ∙ ap (λ (o : Outcome R A). andThen o (λ a. run memory (after a))) e
 
     pub run-refused : {refusal : R} → run memory rule ≡ refused refusal → run memory (rule >>= after) ≡ refused refusal
-    run-refused e = run-then rule after ∙ ap (λ (o : Outcome R A). next o (λ a. run memory (after a))) e
+    run-refused e = run-then rule after ∙ ap (λ (o : Outcome R A). andThen o (λ a. run memory (after a))) e
 
     pub reads-ok : {answer : A} → run memory rule ≡ ok answer → reads memory (rule >>= after) ≡ reads memory rule ++ reads memory (after answer)
     reads-ok e =
-        reads-then rule after ∙ ap (λ (o : Outcome R A). reads memory rule ++ nextReads o (λ a. reads memory (after a))) e
+        reads-then rule after ∙ ap (λ (o : Outcome R A). reads memory rule ++ andThenReads o (λ a. reads memory (after a))) e
 
     pub reads-refused : {refusal : R} → run memory rule ≡ refused refusal → reads memory (rule >>= after) ≡ reads memory rule
     reads-refused e =
         reads-then rule after
-        ∙ (ap (λ (o : Outcome R A). reads memory rule ++ nextReads o (λ a. reads memory (after a))) e ∙ append-nil (reads memory rule))
+        ∙ (ap (λ (o : Outcome R A). reads memory rule ++ andThenReads o (λ a. reads memory (after a))) e ∙ append-nil (reads memory rule))
 
 module _ {R Q A : Type 0} (memory : Q → ℕ) where
   pub run-cond : (test : Bool) (yes-rule no-rule : Rule R Q A)

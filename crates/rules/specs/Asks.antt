@@ -10,7 +10,7 @@ module _ {R Q A : Type 0} where
   Asks Allowed (ask cell next) = Allowed cell × ((held : ℕ) → Asks Allowed (next held))
 
   -- the rule refuses nothing
-  abbrev pub Never : Rule R Q A → Type 0
-  Never (done answer) = Unit {0}
-  Never (stop refusal) = ⊥
-  Never (ask cell next) = (held : ℕ) → Never (next held)
+  abbrev pub NeverRefuses : Rule R Q A → Type 0
+  NeverRefuses (done answer) = Unit {0}
+  NeverRefuses (stop refusal) = ⊥
+  NeverRefuses (ask cell next) = (held : ℕ) → NeverRefuses (next held)

@@ -1,5 +1,6 @@
 pub mod Rule
 pub mod First
+pub mod Lists
 pub mod Each
 pub mod Asks
 pub mod Unique

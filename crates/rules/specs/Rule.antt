@@ -52,14 +52,14 @@ module _ {R S P Q A : Type 0} (name : R → S) (into : P → Q) where
 
 module _ {R A : Type 0} where
   -- what follows an answer; a refusal stays
-  abbrev pub next : {B : Type 0} → Outcome R A → (A → Outcome R B) → Outcome R B
-  next (ok answer) after = after answer
-  next (refused refusal) after = refused refusal
+  abbrev pub andThen : {B : Type 0} → Outcome R A → (A → Outcome R B) → Outcome R B
+  andThen (ok answer) after = after answer
+  andThen (refused refusal) after = refused refusal
 
   -- what an answer leads to read; a refusal reads nothing more
-  abbrev pub nextReads : {Q : Type 0} → Outcome R A → (A → List Q) → List Q
-  nextReads (ok answer) after = after answer
-  nextReads (refused refusal) after = []
+  abbrev pub andThenReads : {Q : Type 0} → Outcome R A → (A → List Q) → List Q
+  andThenReads (ok answer) after = after answer
+  andThenReads (refused refusal) after = []
 
   -- an outcome under other names for its refusals
   abbrev pub renamed : {S : Type 0} → (R → S) → Outcome R A → Outcome S A

@@ -1,4 +1,4 @@
--- That a contract leaves one answer.
+-- That a contract leaves one answer, for functions that are lent nothing to change.
 use mathlib.Core.Path.{_≡_}
 
 -- whatever two calls with the same arguments answer, and however they leave their parameters, if both meet the contract they answer the same

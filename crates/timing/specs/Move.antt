@@ -14,12 +14,12 @@ totalLines word = field word 27 16 + 1
 
 -- p + 1, or 0 where p + 1 ≥ total
 unfoldable pub onwards : ℕ → ℕ → ℕ
-onwards total p = cond (leb total (p + 1)) 0 (p + 1)
+onwards p total = cond (leb total (p + 1)) 0 (p + 1)
 
--- x moves on; y does, likewise, where x has come to the total width
-unfoldable pub nextPosition : ℕ → Position → Position
-nextPosition word at =
+-- x moves on; y does, likewise, where x + 1 ≥ total width
+unfoldable pub nextPosition : Position → ℕ → Position
+nextPosition at word =
     record {
-      x = onwards (totalWidth word) (at .x);
-      y = cond (leb (totalWidth word) (at .x + 1)) (onwards (totalLines word) (at .y)) (at .y);
+      x = onwards (at .x) (totalWidth word);
+      y = cond (leb (totalWidth word) (at .x + 1)) (onwards (at .y) (totalLines word)) (at .y);
     }

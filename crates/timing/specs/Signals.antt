@@ -7,7 +7,7 @@ use Rattle.timing.specs.declared.Position.{Position}
 use Rattle.timing.specs.declared.Windows.{Windows}
 use Rattle.timing.specs.declared.Signals.{Signals}
 
--- a control word that holds a window, on in 11..0 and off in 27..16
+-- whether p is in the window of a control word, which has on in 11..0 and off in 27..16
 unfoldable pub holds : ℕ → ℕ → Bool
 holds word p = inWindow (field word 11 0) (field word 27 16) p
 

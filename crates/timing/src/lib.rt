@@ -34,7 +34,7 @@ pub struct Position {
 impl Position {
     // The next position, under control word 1.
     pub fn next(self, total: u32) -> Self
-        ensures { λ r. ⌜ r ≡ nextPosition total self ⌝ }
+        ensures { λ r. ⌜ r ≡ nextPosition self total ⌝ }
     {
         let last_x = words::field(total, 11, 0);
         let last_y = words::field(total, 27, 16);

@@ -1,4 +1,4 @@
--- Big-endian numbers: one in front of another, and how large they get. Assumes nothing.
+-- Big-endian numbers, one in front of another. Assumes nothing.
 use mathlib.Core.Path.{_≡_}
 use Prim.Native.Nat.{ℕ, zero, suc, _+_, _*_, _^_, _<_}
 use mathlib.Core.List.{List}
@@ -13,8 +13,3 @@ pub big-endian-add : (bytes : List ℕ) (at m n : ℕ) → bigEndian bytes at (m
 big-endian-add bytes at m zero = simp (mul-one, add-zero)
 big-endian-add bytes at m (suc n) =
     rw (add-suc, pow-suc, big-endian-add bytes at m n) (simp (add-mul, mul-assoc, add-assoc))
-
--- bytes below 256 make a number of that many bytes
-pub big-endian-lt : (bytes : List ℕ) (at count : ℕ) → ((i : ℕ) → getD bytes i 0 < 256) → bigEndian bytes at count < 256 ^ count
-big-endian-lt bytes at zero small = lit< tt
-big-endian-lt bytes at (suc count) small = rw pow-suc (digits-lt (big-endian-lt bytes at count small) (small (at + count)))

@@ -19,13 +19,13 @@ returns : tie.Need-returns
 unfolding entryDefined isDefined
 returns c =
     let a = c .before .before .before .args in
-    rw (decoded-kept (a .depth) (a .entry), ← c .before .before .decode .ensures, c .enum-told .given .1)
+    rw (decoded-kept (a .entry) (a .depth), ← c .before .before .decode .ensures, c .enum-told .given .1)
 
 returns-2 : tie.Need-returns-2
 unfolding entryDefined isDefined
 returns-2 c =
     let a = c .before .before .before .args in
-    rw (decoded-kept (a .depth) (a .entry), ← c .before .before .decode .ensures, c .enum-told2 .given .1)
+    rw (decoded-kept (a .entry) (a .depth), ← c .before .before .decode .ensures, c .enum-told2 .given .1)
 
 pub bulitampaw-entry-defined-spec : {M : Type 1} → statement M
 bulitampaw-entry-defined-spec =

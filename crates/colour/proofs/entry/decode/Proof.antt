@@ -38,17 +38,17 @@ named c = sym (number-names (c .before .before)) ∙ c .format .given .1
 
 -- what the three last tests say
 depth-says : (c : tie.After-has-depth)
-    → c .has-depth .result ≡ hasDepth (partAt (depth-of (c .before .before .before)) (format-of (c .before .before .before)))
+    → c .has-depth .result ≡ hasDepth (partAt (format-of (c .before .before .before)) (depth-of (c .before .before .before)))
 depth-says c = c .has-depth .ensures ∙ ap hasDepth (c .before .part .ensures)
 
 buffer-says : (c : tie.After-has-buffer)
     → let f = c .before .before .before .before .before in
-    c .has-buffer .result ≡ hasBuffer (partAt (depth-of f) (format-of f)) (field (entry-of f) 0 0)
+    c .has-buffer .result ≡ hasBuffer (partAt (format-of f) (depth-of f)) (field (entry-of f) 0 0)
 buffer-says c =
     let f = c .before .before .before .before .before in
     c .has-buffer .ensures ∙ ap₂ hasBuffer (c .before .before .before .part .ensures) (f .before .before .before .before .before .before .before .field .ensures .0)
 
-at-depth : (c : tie.Else2) → let f = c .before .before .before .before in true ≡ hasDepth (partAt (depth-of f) (format-of f))
+at-depth : (c : tie.Else2) → let f = c .before .before .before .before in true ≡ hasDepth (partAt (format-of f) (depth-of f))
 at-depth c = sym (not-false _ (c .if2 .left)) ∙ depth-says (c .before)
 
 bank-says : (c : tie.After-has-bank)
@@ -59,7 +59,7 @@ bank-says c =
     c .has-bank .ensures ∙ ap (λ (bank : ℕ). hasBank (format-of f) bank) (f .before .before .before .before .before .field3 .ensures .0)
 
 in-buffer : (c : tie.Else3)
-    → let f = c .before .before .before .before .before .before in true ≡ hasBuffer (partAt (depth-of f) (format-of f)) (field (entry-of f) 0 0)
+    → let f = c .before .before .before .before .before .before in true ≡ hasBuffer (partAt (format-of f) (depth-of f)) (field (entry-of f) 0 0)
 in-buffer c = sym (not-false _ (c .if3 .left)) ∙ buffer-says (c .before)
 
 field-requires : tie.Need-field-requires
@@ -77,7 +77,7 @@ field-requires-4 c κs = search needs
 returns : tie.Need-returns
 returns c =
     let a = c .before .before .before .before .before .args in
-    spare-bits (a .depth) (a .entry) (λ e. c .if1 .taken (c .before .field4 .ensures .0 ∙ e))
+    spare-bits (a .entry) (a .depth) (λ e. c .if1 .taken (c .before .field4 .ensures .0 ∙ e))
 
 from-number-requires : tie.Need-from-number-requires
 from-number-requires c κs = search needs
@@ -91,7 +91,7 @@ enum-told c = search needs
 returns-2 : tie.Need-returns-2
 returns-2 c =
     let a = c .before .before .before .before .before .before .before .before .args in
-    no-format (a .depth) (a .entry) (clear (c .before .before .before)) (sym (number-names (c .before .before)) ∙ c .enum-told .given .1)
+    no-format (a .entry) (a .depth) (clear (c .before .before .before)) (sym (number-names (c .before .before)) ∙ c .enum-told .given .1)
 
 part-requires : tie.Need-part-requires
 part-requires c κs = search needs
@@ -102,7 +102,7 @@ has-depth-requires c κs = search needs
 returns-3 : tie.Need-returns-3
 returns-3 c =
     let f = c .before .before .before .before in
-    no-depth (depth-of f) (entry-of f) (clear-there f) (named f) (sym (not-true _ (c .if2 .taken)) ∙ depth-says (c .before))
+    no-depth (entry-of f) (depth-of f) (clear-there f) (named f) (sym (not-true _ (c .if2 .taken)) ∙ depth-says (c .before))
 
 has-buffer-requires : tie.Need-has-buffer-requires
 has-buffer-requires c κs = search needs
@@ -110,7 +110,7 @@ has-buffer-requires c κs = search needs
 returns-4 : tie.Need-returns-4
 returns-4 c =
     let f = c .before .before .before .before .before .before in
-    no-buffer (depth-of f) (entry-of f) (clear-there f) (named f) (at-depth (c .before .before))
+    no-buffer (entry-of f) (depth-of f) (clear-there f) (named f) (at-depth (c .before .before))
     (sym (not-true _ (c .if3 .taken)) ∙ buffer-says (c .before))
 
 has-bank-requires : tie.Need-has-bank-requires
@@ -119,7 +119,7 @@ has-bank-requires c κs = search needs
 returns-5 : tie.Need-returns-5
 returns-5 c =
     let f = c .before .before .before .before .before .before .before .before in
-    no-bank (depth-of f) (entry-of f) (clear-there f) (named f) (at-depth (c .before .before .before .before)) (in-buffer (c .before .before))
+    no-bank (entry-of f) (depth-of f) (clear-there f) (named f) (at-depth (c .before .before .before .before)) (in-buffer (c .before .before))
     (sym (not-true _ (c .if4 .taken)) ∙ bank-says (c .before))
 
 low-bit-requires : tie.Need-low-bit-requires
@@ -138,7 +138,7 @@ returns-6 : tie.Need-returns-6
 returns-6 c =
     let f = c .before .before .before .before .before .before .before .before .before .before .before in
     rw (c .before .before .low-bit .ensures, f .before .before .before .before .before .before .before .field .ensures .0, f .before .before .before .before .before .field3 .ensures .0, c .before .field5 .ensures .0, c .field6 .ensures .0)
-    (is-defined (depth-of f) (entry-of f) (clear-there f) (named f) (at-depth (c .before .before .before .before .before .before .before))
+    (is-defined (entry-of f) (depth-of f) (clear-there f) (named f) (at-depth (c .before .before .before .before .before .before .before))
     (in-buffer (c .before .before .before .before .before))
     (sym (not-false _ (c .before .before .before .if4 .left)) ∙ bank-says (c .before .before .before .before)))
 

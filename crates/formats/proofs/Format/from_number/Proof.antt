@@ -1,5 +1,5 @@
-use Rattle.formats.specs.declared.Numbered.the-variants.{Undefined}
 -- `formats::Format::from_number` meets its contract: the number is its place in the table. Assumes nothing.
+use Rattle.formats.specs.declared.Numbered.the-variants.{Undefined}
 use mathlib.Core.Path.{sym, ap}
 use native.Mathlib.Omega.{arith}
 use lib.ListN.{List·getD-eq-default}

@@ -40,11 +40,11 @@ shr-result c = search needs
 
 cast-result-2 : tie.Need-cast-result-2
 cast-result-2 c =
-    let e = by-shifts (c .args .width) (c .args .value) (c .pre .1) (c .pre .2) in
-    omega (arith, widened-lt (c .args .width) (c .args .value) (c .pre .0) (c .pre .2))
+    let e = by-shifts (c .args .value) (c .args .width) (c .pre .1) (c .pre .2) in
+    omega (arith, widened-lt (c .args .value) (c .args .width) (c .pre .0) (c .pre .2))
 
 returns : tie.Need-returns
-returns c = by-shifts (c .args .width) (c .args .value) (c .pre .1) (c .pre .2)
+returns c = by-shifts (c .args .value) (c .args .width) (c .pre .1) (c .pre .2)
 
 pub widen-spec : {M : Type 1} → statement M
 widen-spec =

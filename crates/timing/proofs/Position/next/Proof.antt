@@ -16,16 +16,16 @@ add-t6 : tie.Need-add-t6
 add-t6 c = search needs
 
 returns : tie.Need-returns
-returns c = let a = c .before .before .before .before .before .args in sym (move-along (a .total) (a .self) (omega arith))
+returns c = let a = c .before .before .before .before .before .args in sym (move-along (a .self) (a .total) (omega arith))
 
 add-t7 : tie.Need-add-t7
 add-t7 c = search needs
 
 returns-2 : tie.Need-returns-2
-returns-2 c = let a = c .before .before .before .before .before .before .before .args in sym (move-down (a .total) (a .self) (omega arith) (omega arith))
+returns-2 c = let a = c .before .before .before .before .before .before .before .args in sym (move-down (a .self) (a .total) (omega arith) (omega arith))
 
 returns-3 : tie.Need-returns-3
-returns-3 c = let a = c .before .before .before .before .before .before .args in sym (move-home (a .total) (a .self) (omega arith) (omega arith))
+returns-3 c = let a = c .before .before .before .before .before .before .args in sym (move-home (a .self) (a .total) (omega arith) (omega arith))
 
 pub next-spec : {M : Type 1} → statement M
 next-spec =
