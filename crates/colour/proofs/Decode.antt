@@ -5,9 +5,9 @@ use mathlib.Core.Bool.{true, false}
 use borrow.Author.Tests.{eq-eqb, ne-eqb}
 use Rattle.words.specs.Field.{field}
 use Rattle.formats.specs.Table.{numbered, partAt, hasDepth, hasBuffer, hasBank}
-use Rattle.colour.specs.Entry.{said, decoded}
 use Rattle.formats.specs.declared.Format.{Format}
 use Rattle.formats.specs.declared.Numbered.the-variants.{Is, Undefined as NoFormat}
+use Rattle.colour.specs.Entry.{said, decoded}
 use Rattle.colour.specs.declared.entry.Decoded.the-variants.{Defined, Undefined}
 
 module _ (entry depth : ℕ) where

@@ -10,12 +10,12 @@ use lib.Dec.{eqb, leb, lit<}
 use Rattle.rules.proofs.Cases.{impossible}
 use Rattle.words.specs.Field.{field}
 use Rattle.formats.specs.Table.{widthsOf, numbered, rowOf, partAt, hasDepth, hasBuffer, hasBank, valueOf}
-use Rattle.formats.proofs.Fitting.{part-fitting}
 use Rattle.formats.specs.declared.Format.{Format}
 use Rattle.formats.specs.declared.Format.the-variants.{Index8, Index12, Rgb332, Rgb444, Rgb555, Rgb888}
 use Rattle.formats.specs.declared.Numbered.{Numbered}
 use Rattle.formats.specs.declared.Numbered.the-variants.{Is, Undefined as NoFormat}
 use Rattle.formats.specs.declared.Part.the-variants.{Half, Whole, Unlisted}
+use Rattle.formats.proofs.Fitting.{part-fitting}
 use Rattle.colour.specs.Entry.{lowOf, said, withFormat, decoded}
 use Rattle.colour.specs.Shown.{shownAs, shownOf}
 use Rattle.colour.specs.declared.entry.Entry.{Entry}

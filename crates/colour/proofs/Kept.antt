@@ -1,6 +1,6 @@
 -- What an entry says rests on its 13 kept bits alone. Assumes nothing.
-use mathlib.Core.Path.{_≡_}
 use Prim.Native.Nat.{ℕ, _%_, _^_}
+use mathlib.Core.Path.{_≡_}
 use lib.Dec.{lit≤}
 use Rattle.words.proofs.LowBits.{bits-of-low}
 use Rattle.colour.specs.Entry.{decoded}

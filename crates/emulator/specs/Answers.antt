@@ -1,8 +1,8 @@
 -- What C is answered, in plain numbers: 1 for yes, 0 for no.
 use Prim.Native.Nat.{ℕ, _%_, _^_}
 use mathlib.Core.Bool.{Bool, true, false}
-use Rattle.colour.specs.Entry.{decoded, isDefined}
 use Rattle.timing.specs.Window.{inWindow}
+use Rattle.colour.specs.Entry.{decoded, isDefined}
 
 abbrev pub number : Bool → ℕ
 number true = 1

@@ -4,9 +4,9 @@
 --     widened-lt    the result has 8 bits
 --     by-shifts     one, two, four and eight copies by shifts, and the first 8 bits of them: the code
 -- and the closed forms for the widths in use. Assumes nothing.
+use Prim.Native.Nat.{ℕ, zero, suc, _+_, _-_, _*_, _/_, _%_, _^_, _≤_, _<_}
 use mathlib.Core.Path.{_≡_, refl, sym, ap, _∙_}
 use mathlib.Core.Logic.{⊎-elim}
-use Prim.Native.Nat.{ℕ, zero, suc, _+_, _-_, _*_, _/_, _%_, _^_, _≤_, _<_}
 use native.Mathlib.Nat.{zero-mul, suc-mul, mul-one, add-zero, add-suc, add-assoc, mul-assoc, add-mul, not-suc-le-zero, mul-add-div-right, div-one, pow-suc, one-mul, mul-add-mod-self-right}
 use native.Mathlib.Numerals.{one-add}
 use native.Mathlib.Omega.{arith}

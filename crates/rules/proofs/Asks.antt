@@ -4,10 +4,10 @@ use mathlib.Core.Path.{_≡_, refl, sym, ap, subst}
 use mathlib.Core.Bool.{Bool, true, false, cond}
 use mathlib.Core.List.{List, [], _∷_, List·Memᴰ, List·Memᴰ·cases-cons, List·Memᴰ·not-nil}
 use mathlib.Core.Logic.{⊎-elim}
-use Rattle.rules.proofs.Cases.{impossible}
 use Rattle.rules.specs.Rule.{Rule, done, stop, ask, refused, run, reads, _>>=_, within}
 use Rattle.rules.specs.Each.{each, eachOf}
 use Rattle.rules.specs.Asks.{Asks, NeverRefuses}
+use Rattle.rules.proofs.Cases.{impossible}
 
 module _ {R Q A : Type 0} (Allowed : Q → Type 0) (memory : Q → ℕ) where
   -- what is read is allowed

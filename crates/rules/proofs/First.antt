@@ -7,10 +7,10 @@ use mathlib.Core.Logic.{⊎-elim}
 use native.Mathlib.Omega.{arith}
 use native.Mathlib.Nat.{sub-zero, sub-self, eq-or-lt-of-le}
 use native.Mathlib.Numerals.{add-one}
-use Rattle.rules.proofs.Cases.{impossible}
 use Rattle.rules.specs.Rule.{done, ok, refused, run, reads}
 use Rattle.rules.specs.First.{firstFrom, first}
 use Rattle.rules.specs.Lists.{values}
+use Rattle.rules.proofs.Cases.{impossible}
 use Rattle.rules.proofs.Then.{run-cond, reads-cond}
 
 module _ {R Q : Type 0} (missing : R) (cell : ℕ → Q) (passes : ℕ → Bool) (memory : Q → ℕ) where

@@ -3,7 +3,6 @@ ghost use mathlib.Core.Path.{_≡_};
 ghost use Rattle.timing.specs.Window.{inWindow};
 ghost use Rattle.timing.specs.Signals.{holds, signalsAt};
 ghost use Rattle.timing.specs.Move.{nextPosition};
-ghost use Prim.Native.Nat.{_+_};
 
 // Whether p is in the window from on to off.
 pub fn in_window(on: u32, off: u32, p: u32) -> bool

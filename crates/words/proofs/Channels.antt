@@ -1,6 +1,6 @@
 -- Channels put together and taken apart again: nothing is lost. Assumes nothing.
-use mathlib.Core.Path.{_≡_, sym, ap, _∙_}
 use Prim.Native.Nat.{ℕ, _+_, _*_, _%_, _^_, _<_}
+use mathlib.Core.Path.{_≡_, sym, ap, _∙_}
 use native.Mathlib.Nat.{div-one, add-assoc}
 use native.Mathlib.Omega.{arith}
 use lib.Pow.{mod-pow-add}

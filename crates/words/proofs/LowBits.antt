@@ -1,6 +1,6 @@
 -- Bits of a word rest on its low part alone, where they lie in it. Assumes nothing.
-use mathlib.Core.Path.{_≡_, ap, _∙_}
 use Prim.Native.Nat.{ℕ, _+_, _-_, _/_, _%_, _^_, _≤_}
+use mathlib.Core.Path.{_≡_, ap, _∙_}
 use native.Mathlib.Omega.{arith}
 use lib.Pow.{field, mod-mod-pow}
 use Rattle.words.specs.Field.{bits}

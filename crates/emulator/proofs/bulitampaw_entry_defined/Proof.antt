@@ -1,8 +1,8 @@
 -- `emulator::bulitampaw_entry_defined` meets its contract: the decoder rests on the 13 bits that count. Assumes nothing.
+use borrow.Author.Needs.{needs}
 use Rattle.colour.specs.Entry.{isDefined}
 use Rattle.colour.proofs.Kept.{decoded-kept}
 use Rattle.emulator.specs.Answers.{entryDefined}
-use borrow.Author.Needs.{needs}
 use Rattle.emulator.proofs.bulitampaw_entry_defined.Statement.{statement}
 use Rattle.emulator.proofs.bulitampaw_entry_defined.Tie as tie
 

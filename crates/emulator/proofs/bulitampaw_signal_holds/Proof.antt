@@ -1,6 +1,6 @@
 -- `emulator::bulitampaw_signal_holds` meets its contract: the window rule, as a number. Assumes nothing.
-use Rattle.emulator.specs.Answers.{signalHolds}
 use borrow.Author.Needs.{needs}
+use Rattle.emulator.specs.Answers.{signalHolds}
 use Rattle.emulator.proofs.bulitampaw_signal_holds.Statement.{statement}
 use Rattle.emulator.proofs.bulitampaw_signal_holds.Tie as tie
 

@@ -1,6 +1,6 @@
 -- `timing::holds` meets its contract: the window that its two fields say. Assumes nothing.
-use Rattle.timing.specs.Signals.{holds}
 use borrow.Author.Needs.{needs}
+use Rattle.timing.specs.Signals.{holds}
 use Rattle.timing.proofs.holds.Statement.{statement}
 use Rattle.timing.proofs.holds.Tie as tie
 

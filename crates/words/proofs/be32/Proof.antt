@@ -1,8 +1,8 @@
 -- `words::be32` meets its contract: two numbers of 16 bits, one behind the other. Assumes nothing.
 use native.Mathlib.Omega.{arith}
+use borrow.Author.Needs.{needs}
 use denote.Ref.{now}
 use Rattle.words.proofs.Bytes.{big-endian-add}
-use borrow.Author.Needs.{needs}
 use Rattle.words.proofs.be32.Statement.{statement}
 use Rattle.words.proofs.be32.Tie as tie
 

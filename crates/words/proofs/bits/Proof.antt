@@ -1,11 +1,11 @@
 -- `words::bits` meets its contract: the divisor is the power of two that the count says. Assumes nothing.
-use mathlib.Core.Path.{_≡_, refl, _∙_}
 use Prim.Native.Nat.{_*_, _/_, _%_, _^_}
+use mathlib.Core.Path.{_≡_, refl, _∙_}
 use native.Mathlib.Nat.{one-mul, mod-lt, mod-le}
 use native.Mathlib.Omega.{arith}
+use borrow.Author.Needs.{needs}
 use lib.Dec.{lit<}
 use lib.Pow.{shl-exact, shr-le, pow-pos}
-use borrow.Author.Needs.{needs}
 use Rattle.words.proofs.bits.Statement.{statement}
 use Rattle.words.proofs.bits.Tie as tie
 

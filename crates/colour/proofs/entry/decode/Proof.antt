@@ -1,14 +1,14 @@
 -- `colour::entry::decode` meets its contract: each return follows from the tests before it. Assumes nothing.
+use Prim.Native.Nat.{ℕ}
 use mathlib.Core.Path.{_≡_, sym, ap, ap₂, _∙_}
+use mathlib.Core.Bool.{true}
+use borrow.Author.Tests.{not-true, not-false}
+use borrow.Author.Needs.{needs}
 use Rattle.words.specs.Field.{field}
 use Rattle.formats.specs.Table.{numbered, partAt, hasDepth, hasBuffer, hasBank}
 use Rattle.formats.specs.declared.Format.{Format}
-use Rattle.colour.proofs.Decode.{spare-bits, no-format, no-depth, no-buffer, no-bank, is-defined}
-use Prim.Native.Nat.{ℕ}
-use mathlib.Core.Bool.{true}
-use borrow.Author.Tests.{not-true, not-false}
 use Rattle.formats.specs.declared.Numbered.the-variants.{Is}
-use borrow.Author.Needs.{needs}
+use Rattle.colour.proofs.Decode.{spare-bits, no-format, no-depth, no-buffer, no-bank, is-defined}
 use Rattle.colour.proofs.entry.decode.Statement.{statement}
 use Rattle.colour.proofs.entry.decode.Tie as tie
 

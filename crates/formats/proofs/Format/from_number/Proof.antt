@@ -1,9 +1,9 @@
 -- `formats::Format::from_number` meets its contract: the number is its place in the table. Assumes nothing.
-use Rattle.formats.specs.declared.Numbered.the-variants.{Undefined}
 use mathlib.Core.Path.{sym, ap}
 use native.Mathlib.Omega.{arith}
 use lib.ListN.{List·getD-eq-default}
 use Rattle.formats.specs.Table.{formats, numbered}
+use Rattle.formats.specs.declared.Numbered.the-variants.{Undefined}
 use Rattle.formats.proofs.Format.from_number.Statement.{statement}
 use Rattle.formats.proofs.Format.from_number.Tie as tie
 

@@ -1,8 +1,8 @@
 -- `formats::Format::has_bank` meets its contract, case by case. Assumes nothing.
 use mathlib.Core.Path.{sym, ap}
+use borrow.Author.Needs.{needs}
 use Rattle.formats.specs.Table.{hasBank}
 use Rattle.formats.specs.declared.Format.{Format}
-use borrow.Author.Needs.{needs}
 use Rattle.formats.proofs.Format.has_bank.Statement.{statement}
 use Rattle.formats.proofs.Format.has_bank.Tie as tie
 

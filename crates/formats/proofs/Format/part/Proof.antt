@@ -1,9 +1,9 @@
 -- `formats::Format::part` meets its contract: the bits say which part, at the two depths. Assumes nothing.
 use mathlib.Core.Path.{_≡_, ap}
+use borrow.Author.Needs.{needs}
 use Rattle.formats.specs.Table.{widthsOf}
 use Rattle.formats.specs.declared.Widths.{Widths}
 use Rattle.formats.proofs.Fitting.{part-half, part-whole, part-unlisted, part-no-depth}
-use borrow.Author.Needs.{needs}
 use Rattle.formats.proofs.Format.part.Statement.{statement}
 use Rattle.formats.proofs.Format.part.Tie as tie
 

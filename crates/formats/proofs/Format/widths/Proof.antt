@@ -1,7 +1,7 @@
 -- `formats::Format::widths` meets its contract: the constants of each type are its row. Assumes nothing.
 use mathlib.Core.Path.{sym, ap}
-use Rattle.formats.specs.Table.{widthsOf}
 use borrow.Author.Needs.{needs}
+use Rattle.formats.specs.Table.{widthsOf}
 use Rattle.formats.proofs.Format.widths.Statement.{statement}
 use Rattle.formats.proofs.Format.widths.Tie as tie
 

@@ -1,8 +1,8 @@
 -- `formats::Part::has_buffer` meets its contract, case by case. Assumes nothing.
 use mathlib.Core.Path.{sym, ap}
+use borrow.Author.Needs.{needs}
 use Rattle.formats.specs.Table.{hasBuffer}
 use Rattle.formats.specs.declared.Part.{Part}
-use borrow.Author.Needs.{needs}
 use Rattle.formats.proofs.Part.has_buffer.Statement.{statement}
 use Rattle.formats.proofs.Part.has_buffer.Tie as tie
 

@@ -1,7 +1,7 @@
 -- `formats::channel::widen` meets its contract: the shifts make eight copies. Assumes nothing.
 use native.Mathlib.Omega.{arith}
-use Rattle.formats.proofs.Widening.{by-shifts, widened-lt}
 use borrow.Author.Needs.{needs}
+use Rattle.formats.proofs.Widening.{by-shifts, widened-lt}
 use Rattle.formats.proofs.channel.widen.Statement.{statement}
 use Rattle.formats.proofs.channel.widen.Tie as tie
 

@@ -1,8 +1,8 @@
 -- `timing::Position::next` meets its contract: each return is one of the three moves. Assumes nothing.
 use mathlib.Core.Path.{sym}
 use native.Mathlib.Omega.{arith}
-use Rattle.timing.proofs.Move.{move-along, move-down, move-home}
 use borrow.Author.Needs.{needs}
+use Rattle.timing.proofs.Move.{move-along, move-down, move-home}
 use Rattle.timing.proofs.Position.next.Statement.{statement}
 use Rattle.timing.proofs.Position.next.Tie as tie
 

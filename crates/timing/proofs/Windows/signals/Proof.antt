@@ -1,6 +1,6 @@
 -- `timing::Windows::signals` meets its contract: each signal is its window at its coordinate. Assumes nothing.
-use Rattle.timing.specs.Signals.{signalsAt}
 use borrow.Author.Needs.{needs}
+use Rattle.timing.specs.Signals.{signalsAt}
 use Rattle.timing.proofs.Windows.signals.Statement.{statement}
 use Rattle.timing.proofs.Windows.signals.Tie as tie
 

@@ -1,10 +1,10 @@
 -- `colour::entry::Entry::sample` meets its contract: the bits that the format uses. Assumes nothing.
 use mathlib.Core.Path.{_≡_, ap}
 use native.Mathlib.Omega.{arith}
+use borrow.Author.Needs.{needs}
 use Rattle.formats.specs.Table.{widthsOf}
 use Rattle.formats.specs.declared.Widths.{Widths}
 use Rattle.formats.proofs.Bounds.{bits-le}
-use borrow.Author.Needs.{needs}
 use Rattle.colour.proofs.entry.Entry.sample.Statement.{statement}
 use Rattle.colour.proofs.entry.Entry.sample.Tie as tie
 
