@@ -95,6 +95,7 @@ module _ (number depth : ℕ) where
   spare-by true e = says-as (numbered (field number 3 1)) e
   spare-by {entry} false e = impossible (cc)
 
+  -- so it is with what the decoder answers
   pub defined-says : {entry : Entry} → decoded number depth ≡ Defined entry → Says depth entry
   unfolding decoded
   defined-says e = spare-by (eqb (field number 12 11) 0) e

@@ -5,6 +5,7 @@ use lib.Dec.{lit≤}
 use Rattle.words.proofs.LowBits.{bits-of-low}
 use Rattle.colour.specs.Entry.{decoded}
 
+-- bits above bit 12 do not count
 pub decoded-kept : (entry depth : ℕ) → decoded (entry % 2 ^ 13) depth ≡ decoded entry depth
 unfolding decoded
 decoded-kept entry depth =

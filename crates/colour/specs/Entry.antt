@@ -41,7 +41,7 @@ decoded entry depth =
     (cond (not (hasBank format (field entry 8 4))) Undefined
     (Defined (said entry depth format))))))
 
--- whether an entry is defined at a depth
+-- whether what the decoder answers is a defined entry
 unfoldable pub isDefined : Decoded → Bool
 isDefined (Defined entry) = true
 isDefined Undefined = false

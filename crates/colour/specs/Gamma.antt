@@ -5,6 +5,7 @@ use lib.ListN.{getD}
 use Rattle.words.specs.Channels.{channelsOf}
 use Rattle.words.specs.declared.Rgb.{Rgb}
 
+-- a colour through the gamma words
 abbrev pub corrected : List ℕ → Rgb → Rgb
 corrected gamma colour =
     record {

@@ -21,5 +21,6 @@ shownAs Rgb444 bank sample = Colour (colourIn Rgb444 sample)
 shownAs Rgb555 bank sample = Colour (colourIn Rgb555 sample)
 shownAs Rgb888 bank sample = Colour (colourIn Rgb888 sample)
 
+-- what a sample shows under an entry
 abbrev pub shownOf : Entry → ℕ → Shown
 shownOf entry sample = shownAs (entry .format) (entry .bank) sample

@@ -4,6 +4,7 @@ use mathlib.Core.Bool.{Bool, true, false}
 use Rattle.timing.specs.Window.{inWindow}
 use Rattle.colour.specs.Entry.{decoded, isDefined}
 
+-- yes and no as numbers
 abbrev pub number : Bool → ℕ
 number true = 1
 number false = 0

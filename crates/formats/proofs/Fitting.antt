@@ -24,20 +24,25 @@ row-fitting Rgb555 = (refl, refl)
 row-fitting Rgb888 = (refl, refl)
 
 module _ (format : Format) (depth : ℕ) where
+  -- at the two depths the bits decide
   pub part-fitting : (depth ≡ 16) ⊎ (depth ≡ 32) → partAt format depth ≡ fitting (widthsOf format .bits) depth
   unfolding partAt
   part-fitting depths = ⊎-elim (λ e. rw e (row-fitting format .0)) (λ e. rw e (row-fitting format .1)) depths
 
   module _ (depths : (depth ≡ 16) ⊎ (depth ≡ 32)) {bits : ℕ} (same : bits ≡ widthsOf format .bits) where
+    -- bits that fit a half
     pub part-half : bits ≤ depth / 2 → Half ≡ partAt format depth
     part-half h = sym (rw (part-fitting depths, ← same, le-leb bits (depth / 2) h))
 
+    -- bits that fit the whole and no half
     pub part-whole : depth / 2 < bits → bits ≤ depth → Whole ≡ partAt format depth
     part-whole above h = sym (rw (part-fitting depths, ← same, lt-leb bits (depth / 2) above, le-leb bits depth h))
 
+    -- bits that do not fit the whole
     pub part-unlisted : depth / 2 < bits → depth < bits → Unlisted ≡ partAt format depth
     part-unlisted above h = sym (rw (part-fitting depths, ← same, lt-leb bits (depth / 2) above, lt-leb bits depth h))
 
+  -- at another depth there is nothing
   pub part-no-depth : ((depth ≡ 16) ⊎ (depth ≡ 32) → ⊥) → Unlisted ≡ partAt format depth
   unfolding partAt
-  part-no-depth other = sym (rw (ne-eqb depth 16 (λ e. other (inl e)), ne-eqb depth 32 (λ e. other (inr e))))
+  part-no-depth other = sym (simp (ne-eqb depth 16 (λ e. other (inl e)), ne-eqb depth 32 (λ e. other (inr e))))

@@ -26,6 +26,7 @@ repeated-add value width m zero = simp (zero-mul, mul-one, add-zero)
 repeated-add value width m (suc n) =
     rw (add-suc, suc-mul, pow-add, repeated-add value width m n) (simp (add-mul, mul-assoc, add-assoc))
 
+-- the result has 8 bits
 pub widened-lt : (value width : ℕ) → 1 ≤ width → value < 2 ^ width → widened value width < 2 ^ 8
 unfolding widened
 widened-lt value width some h =
@@ -60,6 +61,7 @@ repeated-top value width (suc count) i h l =
     (repeated-top value width count i h before))
     (le-or-lt (count * width) i)
 
+-- bit i from the top of the result is bit i mod width from the top of the value
 pub widened-top : (value width i : ℕ) → 1 ≤ width → value < 2 ^ width → i < 8
     → fromTop (widened value width) 8 i ≡ fromTop value width (i % width)
 unfolding widened
@@ -96,6 +98,7 @@ twice-repeated value width n x shift h e d fits =
     let small : x < 2 ^ shift = rw (e, d) (repeated-lt value width n h) in
     rw (shl-exact shift shift 64 small fits, or-shifted x shift x small, e, d) (sym (repeated-add value width n n))
 
+-- doubled three times by shifts, the first 8 bits are the result
 pub by-shifts : (value width : ℕ) → width ≤ 8 → value < 2 ^ width
     → twice (twice (twice value width) (2 * width)) (4 * width) / 2 ^ (8 * width - 8) ≡ widened value width
 unfolding widened
@@ -107,7 +110,7 @@ by-shifts value width fits h =
     ap (λ (x : ℕ). x / 2 ^ (8 * width - 8))
     (twice-repeated value width 4 (twice (twice value width) (2 * width)) (4 * width) h four refl (omega arith))
 
--- the closed forms of the widths in use
+-- the closed forms of the five widths in use
 pub widened-2 : (v : ℕ) → v < 2 ^ 2 → widened v 2 ≡ v * 85
 unfolding widened
 widened-2 v h = omega arith

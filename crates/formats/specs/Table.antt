@@ -42,6 +42,7 @@ rowOf Rgb444 = row 12 4 4 4 Whole Half
 rowOf Rgb555 = row 15 5 5 5 Whole Half
 rowOf Rgb888 = row 24 8 8 8 Unlisted Whole
 
+-- the bits of a format
 abbrev pub widthsOf : Format → Widths
 widthsOf format = rowOf format .widths
 

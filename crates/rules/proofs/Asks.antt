@@ -21,18 +21,21 @@ module _ {R Q A : Type 0} (Allowed : Q → Type 0) (memory : Q → ℕ) where
       (List·Memᴰ·cases-cons here)
 
 module _ {R Q A : Type 0} (memory : Q → ℕ) where
+  -- a rule that never refuses has no refusal for its outcome
   pub never-refused : (rule : Rule R Q A) {refusal : R} → NeverRefuses rule → run memory rule ≡ refused refusal → ⊥
   never-refused (done answer) never e = impossible (cc)
   never-refused (stop refusal) never e = never
   never-refused (ask cell on) never e = never-refused (on (memory cell)) (never (memory cell)) e
 
 module _ {R Q A B : Type 0} where
+  -- one rule and then another ask for what each may ask for
   pub asks-then : (Allowed : Q → Type 0) (rule : Rule R Q A) (after : A → Rule R Q B)
       → Asks Allowed rule → ((a : A) → Asks Allowed (after a)) → Asks Allowed (rule >>= after)
   asks-then Allowed (done answer) after asks asks-after = asks-after answer
   asks-then Allowed (stop refusal) after asks asks-after = tt
   asks-then Allowed (ask cell on) after asks asks-after = (asks .0, λ held. asks-then Allowed (on held) after (asks .1 held) asks-after)
 
+  -- one rule and then another never refuse where neither does
   pub never-then : (rule : Rule R Q A) (after : A → Rule R Q B) → NeverRefuses rule → ((a : A) → NeverRefuses (after a)) → NeverRefuses (rule >>= after)
   never-then (done answer) after never never-after = never-after answer
   never-then (stop refusal) after never never-after = never
@@ -47,11 +50,13 @@ module _ {R Q A B : Type 0} where
       ap (λ (cells : List Q). cell ∷ cells) (refused-reads memory (on (memory cell)) after never e)
 
 module _ {R Q A : Type 0} where
+  -- a rule by a test asks for what either side may ask for
   pub asks-cond : (Allowed : Q → Type 0) (test : Bool) (yes-rule no-rule : Rule R Q A)
       → Asks Allowed yes-rule → Asks Allowed no-rule → Asks Allowed (cond test yes-rule no-rule)
   asks-cond Allowed true yes-rule no-rule asks-yes asks-no = asks-yes
   asks-cond Allowed false yes-rule no-rule asks-yes asks-no = asks-no
 
+  -- a rule by a test never refuses where neither side does
   pub never-cond : (test : Bool) (yes-rule no-rule : Rule R Q A) → NeverRefuses yes-rule → NeverRefuses no-rule → NeverRefuses (cond test yes-rule no-rule)
   never-cond true yes-rule no-rule never-yes never-no = never-yes
   never-cond false yes-rule no-rule never-yes never-no = never-no
@@ -62,6 +67,7 @@ module _ {R Q A : Type 0} where
   asks-any Allowed all (stop refusal) = tt
   asks-any Allowed all (ask cell on) = (all cell, λ held. asks-any Allowed all (on held))
 
+  -- a pass asks for what its positions may ask for
   pub asks-each : (Allowed : Q → Type 0) (rule : ℕ → Rule R Q A) → ((x : ℕ) → Asks Allowed (rule x))
       → (count from : ℕ) → Asks Allowed (each rule count from)
   asks-each Allowed rule asks zero from = tt
@@ -69,6 +75,7 @@ module _ {R Q A : Type 0} where
       asks-then Allowed (rule from) _ (asks from)
       (λ a. asks-then Allowed (each rule count (suc from)) _ (asks-each Allowed rule asks count (suc from)) (λ l. tt))
 
+  -- a second pass never refuses where no position does
   pub never-each-of : {B : Type 0} (rule : B → ℕ → Rule R Q A) → ((b : B) (x : ℕ) → NeverRefuses (rule b x))
       → (found : List B) (from : ℕ) → NeverRefuses (eachOf rule found from)
   never-each-of rule never [] from = tt
@@ -76,6 +83,7 @@ module _ {R Q A : Type 0} where
       never-then (rule b from) _ (never b from)
       (λ a. never-then (eachOf rule others (suc from)) _ (never-each-of rule never others (suc from)) (λ l. tt))
 
+-- a rule taken into more cells asks for those that its own become
 pub asks-within : {R S P Q A : Type 0} (Allowed : Q → Type 0) (name : R → S) (into : P → Q) (rule : Rule R P A)
     → Asks (λ cell. Allowed (into cell)) rule → Asks Allowed (within name into rule)
 asks-within Allowed name into (done answer) asks = tt

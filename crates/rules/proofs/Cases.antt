@@ -15,5 +15,6 @@ by-test : (a b : ℕ) (test : Bool) → leb a b ≡ test → (a ≤ b) ⊎ (b < 
 by-test a b true e = inl (leb-true a b e)
 by-test a b false e = inr (leb-false a b e)
 
+-- of two numbers, which is the larger
 pub le-or-lt : (a b : ℕ) → (a ≤ b) ⊎ (b < a)
 le-or-lt a b = by-test a b (leb a b) refl

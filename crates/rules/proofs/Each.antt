@@ -29,12 +29,14 @@ module _ {R Q A : Type 0} (memory : Q → ℕ) (rule : ℕ → Rule R Q A) (valu
     stops-later : run memory (rule (suc from + d)) ≡ refused refusal
     stops-later = rw suc-add (rw add-suc at stops)
 
+  -- a pass whose positions all answer
   pub each-ok : (count from : ℕ) → Answers count from → run memory (each rule count from) ≡ ok (values value count from)
   each-ok zero from answers = refl
   each-ok (suc count) from answers =
       run-ok memory (rule from) _ (here count from answers)
       ∙ run-ok memory (each rule count (suc from)) _ (each-ok count (suc from) (later count from answers))
 
+  -- a pass that stops d positions on
   pub each-stop : (d count from : ℕ) {refusal : R} → d < count → Answers d from
       → run memory (rule (from + d)) ≡ refused refusal → run memory (each rule count from) ≡ refused refusal
   each-stop zero zero from h answers stops = absurd (not-suc-le-zero h)
@@ -50,6 +52,7 @@ module _ {R Q A : Type 0} (memory : Q → ℕ) (rule : ℕ → Rule R Q A) (valu
     pub in-range : at ≤ count
     pub answered : (i : ℕ) → i < at → run memory (rule i) ≡ ok (value i)
 
+  -- before the first position
   pub pass-start : (count : ℕ) → Passing count 0
   pass-start count = record { in-range = omega arith; answered = below-none _ }
 
@@ -68,9 +71,11 @@ module _ {R Q A : Type 0} (memory : Q → ℕ) (rule : ℕ → Rule R Q A) (valu
         in-either : (i : ℕ) → i < at + length → (at ≤ i) ⊎ (i < at) → run memory (rule i) ≡ ok (value i)
         in-either i h side = ⊎-elim (λ low. answers i low h) (λ before. pass .answered i before) side
 
+    -- a position that refuses decides
     pub pass-found : {refusal : R} → at < count → run memory (rule at) ≡ refused refusal → run memory (each rule count 0) ≡ refused refusal
     pass-found more e = each-stop at count 0 more (answers-before pass) (rw zero-add e)
 
+    -- after the last position
     pub pass-over : count ≤ at → run memory (each rule count 0) ≡ ok (values value count 0)
     pass-over all = each-ok count 0 (λ i low high. pass .answered i (omega arith))
 
@@ -96,6 +101,7 @@ module _ {R Q A : Type 0} (memory : Q → ℕ) (rule : ℕ → Rule R Q A) where
     pub stops : run memory (rule (from + passed)) ≡ refused refusal
     pub read : reads memory (each rule count from) ≡ readsFrom (suc passed) from
 
+  -- what an outcome tells
   abbrev pub Told : ℕ → ℕ → Outcome R (List A) → Type 0
   Told count from (ok answers) = Answered count from
   Told count from (refused refusal) = Stopped count from refusal

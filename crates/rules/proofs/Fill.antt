@@ -24,9 +24,11 @@ pub record Filling {A : Type 0} (at : ℕ → A) (from count : ℕ) (room now : 
   pub list : now ≡ filled at from room i
 
 module _ {A : Type 0} {at : ℕ → A} {from count : ℕ} {room : List A} where
+  -- before the first store
   pub fill-start : count ≤ length room → Filling at from count room room 0
   fill-start h = record { in-range = omega arith; fits = h; long = refl; list = refl }
 
+  -- one store on
   pub fill-next : {now : List A} {i : ℕ} {a : A} → Filling at from count room now i → i < count → a ≡ at (from + i)
       → Filling at from count room (set now i a) (i + 1)
   fill-next {now} {i} {a} fill more e = record {
@@ -36,5 +38,6 @@ module _ {A : Type 0} {at : ℕ → A} {from count : ℕ} {room : List A} where
     list = rw (fill .list, e, add-one i) (one-more at i from room (omega arith));
   }
 
+  -- after the last store
   pub fill-over : {now : List A} {i : ℕ} → Filling at from count room now i → count ≤ i → now ≡ filled at from room count
   fill-over {now} {i} fill all = let e : i ≡ count = omega arith in rw (← e) (fill .list)

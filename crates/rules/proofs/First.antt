@@ -30,17 +30,20 @@ module _ {R Q : Type 0} (missing : R) (cell : ℕ → Q) (passes : ℕ → Bool)
     pub in-range : at ≤ count
     pub rest : run memory (firstFrom missing cell passes (count - at) at) ≡ run memory (first missing cell passes count)
 
+  -- before the first cell
   pub seek-start : (count : ℕ) → Seeking count 0
   seek-start count = record { in-range = omega arith; rest = rw sub-zero }
 
   -- `held` is what the cell at `at` holds
   module _ {count at held : ℕ} (here : Seeking count at) (more : at < count) (e : held ≡ memory (cell at)) where
+    -- a cell that does not pass: one on
     pub seek-next : passes held ≡ false → Seeking count (at + 1)
     seek-next test = record {
       in-range = omega arith;
       rest = rw (add-one at) (rw (one-more count at more, step (count - (at + 1)) at, ← e, test, add-one at) at (here .rest));
     }
 
+    -- a cell that passes is the one found
     pub seek-found : passes held ≡ true → run memory (first missing cell passes count) ≡ ok at
     seek-found test = sym (rw (one-more count at more, step (count - (at + 1)) at, ← e, test) at (here .rest))
 
@@ -50,6 +53,7 @@ module _ {R Q : Type 0} (missing : R) (cell : ℕ → Q) (passes : ℕ → Bool)
   seek-from count (suc at) fits failed =
       rw (add-one at) at (seek-next (seek-from count at (omega arith) (λ i h. failed i (omega arith))) (omega arith) refl (failed at (omega arith)))
 
+  -- after the last cell
   pub seek-over : {count at : ℕ} → Seeking count at → count ≤ at → run memory (first missing cell passes count) ≡ refused missing
   seek-over {count} {at} here all = sym (rw (none-left count at all) at (here .rest))
 
@@ -95,6 +99,7 @@ module _ {R Q : Type 0} (missing : R) (cell : ℕ → Q) (passes : ℕ → Bool)
   by-test count from {at} true test e later = found-here count from test (cc)
   by-test count from {at} false test e later = found-later count from test (later e)
 
+  -- from an answer, what it tells
   pub found-from : (count from : ℕ) {at : ℕ} → run memory (firstFrom missing cell passes count from) ≡ ok at → Found count from at
   found-from zero from {at} e = impossible (cc)
   found-from (suc count) from {at} e =
@@ -118,6 +123,7 @@ module _ {R Q : Type 0} (missing : R) (cell : ℕ → Q) (passes : ℕ → Bool)
         read = reads-step count from false test ∙ ap (λ (cells : List Q). cell from ∷ cells) (rest .read);
       }
 
+  -- from a refusal, what it tells
   pub missing-from : (count from : ℕ) {refusal : R} → run memory (firstFrom missing cell passes count from) ≡ refused refusal → Missing count from refusal
   missing-from zero from {refusal} e = record { named = cc; failed = λ i low high. absurd (omega arith); read = refl }
   missing-from (suc count) from e =

@@ -16,6 +16,7 @@ module _ {R Q A : Type 0} (memory other : Q → ℕ) where
       same-run (next (memory cell)) (agree-later agree)
       ∙ ap (λ (held : ℕ). run other (next held)) (agree cell (List·Memᴰ·head refl))
 
+  -- and the same cells are read
   pub same-reads : (rule : Rule R Q A) → Agree memory other (reads memory rule) → reads memory rule ≡ reads other rule
   same-reads (done answer) agree = refl
   same-reads (stop refusal) agree = refl

@@ -11,15 +11,18 @@ use Rattle.timing.specs.Move.{totalWidth, totalLines, onwards, nextPosit
 use Rattle.timing.specs.declared.Position.{Position}
 
 module _ (at : Position) (word : ℕ) where
+  -- along the line
   pub move-along : at .x < field word 11 0 → nextPosition at word ≡ record { x = at .x + 1; y = at .y }
   unfolding nextPosition onwards
   move-along more = simp (lt-leb (totalWidth word) (at .x + 1) (omega arith))
 
   module _ (over : field word 11 0 ≤ at .x) where
+    -- to the next line
     pub move-down : at .y < field word 27 16 → nextPosition at word ≡ record { x = 0; y = at .y + 1 }
     unfolding nextPosition onwards
     move-down more = simp (le-leb (totalWidth word) (at .x + 1) (omega arith), lt-leb (totalLines word) (at .y + 1) (omega arith))
 
+    -- to the first line
     pub move-home : field word 27 16 ≤ at .y → nextPosition at word ≡ record { x = 0; y = 0 }
     unfolding nextPosition onwards
     move-home last = simp (le-leb (totalWidth word) (at .x + 1) (omega arith), le-leb (totalLines word) (at .y + 1) (omega arith))
@@ -38,10 +41,12 @@ below-limit limit p q true hp hq = hp
 below-limit limit p q false hp hq = hq
 
 module _ (at : Position) (word : ℕ) where
+  -- x has 12 bits after a move
   pub next-x-lt : nextPosition at word .x < 2 ^ 12
   unfolding nextPosition
   next-x-lt = omega (arith, onwards-below (at .x) (field word 11 0), mod-lt (word / 2 ^ 0) {m = 2 ^ 12} (lit< tt))
 
+  -- y keeps its 12 bits
   pub next-y-lt : at .y < 2 ^ 12 → nextPosition at word .y < 2 ^ 12
   unfolding nextPosition
   next-y-lt h =

@@ -5,10 +5,11 @@ use lib.Dec.{leb}
 use Rattle.words.specs.Field.{field}
 use Rattle.timing.specs.declared.Position.{Position}
 
--- control word 1 has the total width less 1 in 11..0 and the total lines less 1 in 27..16
+-- total width, which control word 1 has less 1 in 11..0
 abbrev pub totalWidth : ℕ → ℕ
 totalWidth word = field word 11 0 + 1
 
+-- total lines, which it has less 1 in 27..16
 abbrev pub totalLines : ℕ → ℕ
 totalLines word = field word 27 16 + 1
 

@@ -1,10 +1,17 @@
 -- `emulator::bulitampaw_entry_defined` meets its contract: the decoder rests on the 13 bits that count. Assumes nothing.
+use Prim.Native.Nat.{ℕ}
+use mathlib.Core.Path.{sym, ap, _∙_}
 use borrow.Author.Needs.{needs}
 use Rattle.colour.specs.Entry.{isDefined}
+use Rattle.colour.specs.declared.entry.Decoded.{Decoded}
 use Rattle.colour.proofs.Kept.{decoded-kept}
-use Rattle.emulator.specs.Answers.{entryDefined}
+use Rattle.emulator.specs.Answers.{number, entryDefined}
 use Rattle.emulator.proofs.bulitampaw_entry_defined.Statement.{statement}
 use Rattle.emulator.proofs.bulitampaw_entry_defined.Tie as tie
+
+-- what C is answered of what the decoder says
+abbrev answer : Decoded → ℕ
+answer decoded = number (isDefined decoded)
 
 decode-requires : tie.Need-decode-requires
 decode-requires c κs = search needs
@@ -19,13 +26,13 @@ returns : tie.Need-returns
 unfolding entryDefined isDefined
 returns c =
     let a = c .before .before .before .args in
-    rw (decoded-kept (a .entry) (a .depth), ← c .before .before .decode .ensures, c .enum-told .given .1)
+    ap answer (sym (c .enum-told .given .1) ∙ (c .before .before .decode .ensures ∙ sym (decoded-kept (a .entry) (a .depth))))
 
 returns-2 : tie.Need-returns-2
 unfolding entryDefined isDefined
 returns-2 c =
     let a = c .before .before .before .args in
-    rw (decoded-kept (a .entry) (a .depth), ← c .before .before .decode .ensures, c .enum-told2 .given .1)
+    ap answer (sym (c .enum-told2 .given .1) ∙ (c .before .before .decode .ensures ∙ sym (decoded-kept (a .entry) (a .depth))))
 
 pub bulitampaw-entry-defined-spec : {M : Type 1} → statement M
 bulitampaw-entry-defined-spec =

@@ -1,5 +1,6 @@
 -- `formats::Format::part` meets its contract: the bits say which part, at the two depths. Assumes nothing.
 use mathlib.Core.Path.{_≡_, ap}
+use native.Mathlib.Omega.{arith}
 use borrow.Author.Needs.{needs}
 use Rattle.formats.specs.Table.{widthsOf}
 use Rattle.formats.specs.declared.Widths.{Widths}
@@ -17,17 +18,17 @@ bits-are c = ap (λ (w : Widths). w .bits) (c .widths .ensures)
 returns : tie.Need-returns
 returns c =
     let a = c .before .before .before .args in
-    part-half (a .self) (a .depth) (c .before .match .keys1) (bits-are (c .before .before)) (c .if1 .taken)
+    part-half (a .self) (a .depth) (c .before .match .keys1) (bits-are (c .before .before)) (omega arith)
 
 returns-2 : tie.Need-returns-2
 returns-2 c =
     let a = c .before .before .before .before .args in
-    part-whole (a .self) (a .depth) (c .before .before .match .keys1) (bits-are (c .before .before .before)) (c .before .if1 .left) (c .if2 .taken)
+    part-whole (a .self) (a .depth) (c .before .before .match .keys1) (bits-are (c .before .before .before)) (omega arith) (omega arith)
 
 returns-3 : tie.Need-returns-3
 returns-3 c =
     let a = c .before .before .before .before .args in
-    part-unlisted (a .self) (a .depth) (c .before .before .match .keys1) (bits-are (c .before .before .before)) (c .before .if1 .left) (c .if2 .left)
+    part-unlisted (a .self) (a .depth) (c .before .before .match .keys1) (bits-are (c .before .before .before)) (omega arith) (omega arith)
 
 returns-4 : tie.Need-returns-4
 returns-4 c = part-no-depth (c .before .before .args .self) (c .before .before .args .depth) (c .match .rest .1)
