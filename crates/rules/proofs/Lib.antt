@@ -6,4 +6,5 @@ pub mod Lists
 pub mod Each
 pub mod Fill
 pub mod Asks
+pub mod Faults
 pub mod Unique

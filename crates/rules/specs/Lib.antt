@@ -3,4 +3,5 @@ pub mod First
 pub mod Lists
 pub mod Each
 pub mod Asks
+pub mod Faults
 pub mod Unique

@@ -1,0 +1,75 @@
+-- A call is refused exactly by the first of its faults that holds, and a refused call leaves all as it was. Assumes nothing.
+use mathlib.Core.Path.{_≡_, refl, ap, sym, _∙_}
+use mathlib.Core.Bool.{Bool, true, false, true≢false, cond}
+use mathlib.Core.List.{List, [], _∷_, _++_}
+use Rattle.rules.specs.Rule.{Outcome, ok, refused}
+use Rattle.rules.specs.Faults.{Numbered, Fault, Clear, First, unless}
+
+-- the refusal, where there is one
+abbrev refusal-of : {Answer : Type 0} → Numbered → Outcome Numbered Answer → Numbered
+refusal-of other (ok answer) = other
+refusal-of other (refused refusal) = refusal
+
+-- an answer is no refusal
+abbrev answered : {Answer : Type 0} → Outcome Numbered Answer → Bool
+answered (ok answer) = true
+answered (refused refusal) = false
+
+module _ {Memory Answer : Type 0} (before : Memory) (done : Memory × Answer) where
+  -- faults that are clear decide nothing
+  pub past-clear : (passed others : List Fault) → Clear passed → unless (passed ++ others) before done ≡ unless others before done
+  past-clear [] others clear = refl
+  past-clear (fault ∷ passed) others clear =
+      ap (λ test. cond test (before, refused (fault .refusal)) (unless (passed ++ others) before done)) (clear .0) ∙ past-clear passed others (clear .1)
+
+  -- where none holds, the call does what it does
+  pub none-holds : (faults : List Fault) → Clear faults → unless faults before done ≡ (done .0, ok (done .1))
+  none-holds [] clear = refl
+  none-holds (fault ∷ faults) clear =
+      ap (λ test. cond test (before, refused (fault .refusal)) (unless faults before done)) (clear .0) ∙ none-holds faults (clear .1)
+
+  -- the first that holds is the refusal, and all is left as it was
+  pub first-holds : (faults : List Fault) (refusal : Numbered) → First faults refusal → unless faults before done ≡ (before, refused refusal)
+  first-holds faults refusal f =
+      ap (λ all. unless all before done) (f .order)
+      ∙ past-clear (f .passed) (f .found ∷ f .later) (f .clear)
+      ∙ ap (λ test. cond test (before, refused (f .found .refusal)) (unless (f .later) before done)) (f .holds)
+      ∙ ap (λ (r : Numbered). (before, refused r)) (f .is)
+
+  -- what the first of some faults makes of the answer
+  outcome-of : (fault : Fault) (faults : List Fault) {test : Bool} → fault .holds ≡ test
+      → unless (fault ∷ faults) before done .1 ≡ cond test (before, refused (fault .refusal)) (unless faults before done) .1
+  outcome-of fault faults h = ap (λ test. cond test (before, refused (fault .refusal)) (unless faults before done) .1) h
+
+  -- and there is no other reason: a refusal is that of the first that holds
+  pub refused-first : (faults : List Fault) (refusal : Numbered) → unless faults before done .1 ≡ refused refusal → First faults refusal
+  refused-first [] refusal e = absurd (true≢false (ap answered e))
+  refused-first (fault ∷ faults) refusal e = by (refused-first faults refusal) (fault .holds) refl
+    where
+      by : (unless faults before done .1 ≡ refused refusal → First faults refusal) → (test : Bool) → fault .holds ≡ test → First (fault ∷ faults) refusal
+      by on true h =
+          record { passed = []; found = fault; later = faults; order = refl; clear = tt; holds = h; is = ap (refusal-of refusal) (sym (outcome-of fault faults h) ∙ e) }
+      by on false h =
+          let f = on (sym (outcome-of fault faults h) ∙ e) in
+          record {
+            passed = fault ∷ f .passed;
+            found = f .found;
+            later = f .later;
+            order = ap (λ (rest : List Fault). fault ∷ rest) (f .order);
+            clear = (h, f .clear);
+            holds = f .holds;
+            is = f .is;
+          }
+
+  -- an answer comes only where no fault holds
+  pub accepted-clear : (faults : List Fault) (answer : Answer) → unless faults before done .1 ≡ ok answer → Clear faults
+  accepted-clear [] answer e = tt
+  accepted-clear (fault ∷ faults) answer e = by (accepted-clear faults answer) (fault .holds) refl
+    where
+      by : (unless faults before done .1 ≡ ok answer → Clear faults) → (test : Bool) → fault .holds ≡ test → Clear (fault ∷ faults)
+      by on true h = absurd (true≢false (sym (ap answered (sym (outcome-of fault faults h) ∙ e))))
+      by on false h = (h, on (sym (outcome-of fault faults h) ∙ e))
+
+  -- a refused call leaves all as it was
+  pub refused-leaves : (faults : List Fault) (refusal : Numbered) → unless faults before done .1 ≡ refused refusal → unless faults before done .0 ≡ before
+  refused-leaves faults refusal e = ap (λ (all : Memory × Outcome Numbered Answer). all .0) (first-holds faults refusal (refused-first faults refusal e))
