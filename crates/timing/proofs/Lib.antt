@@ -1,2 +1,5 @@
 pub mod Move
+pub mod After
+pub mod Run
+pub mod Walked
 pub mod Unique

@@ -17,6 +17,11 @@ module _ (at : Position) (word : ℕ) where
   move-along more = simp (lt-leb (totalWidth word) (at .x + 1) (omega arith))
 
   module _ (over : field word 11 0 ≤ at .x) where
+    -- to the start of the line that y moves on to
+    pub move-end : nextPosition at word ≡ record { x = 0; y = onwards (at .y) (totalLines word) }
+    unfolding nextPosition onwards
+    move-end = simp (le-leb (totalWidth word) (at .x + 1) (omega arith))
+
     -- to the next line
     pub move-down : at .y < field word 27 16 → nextPosition at word ≡ record { x = 0; y = at .y + 1 }
     unfolding nextPosition onwards
@@ -41,10 +46,14 @@ below-limit limit p q true hp hq = hp
 below-limit limit p q false hp hq = hq
 
 module _ (at : Position) (word : ℕ) where
+  -- x is within the line after a move
+  pub next-x-le : nextPosition at word .x ≤ field word 11 0
+  unfolding nextPosition
+  next-x-le = onwards-below (at .x) (field word 11 0)
+
   -- x has 12 bits after a move
   pub next-x-lt : nextPosition at word .x < 2 ^ 12
-  unfolding nextPosition
-  next-x-lt = omega (arith, onwards-below (at .x) (field word 11 0), mod-lt (word / 2 ^ 0) {m = 2 ^ 12} (lit< tt))
+  next-x-lt = omega (arith, next-x-le, mod-lt (word / 2 ^ 0) {m = 2 ^ 12} (lit< tt))
 
   -- y keeps its 12 bits
   pub next-y-lt : at .y < 2 ^ 12 → nextPosition at word .y < 2 ^ 12

@@ -1,3 +1,4 @@
 pub mod Window
 pub mod Signals
 pub mod Move
+pub mod Walk

@@ -1,5 +1,5 @@
--- The move from one position to the next.
-use Prim.Native.Nat.{ℕ, _+_}
+-- The move from one position to the next, and so many moves.
+use Prim.Native.Nat.{ℕ, zero, suc, _+_}
 use mathlib.Core.Bool.{cond}
 use lib.Dec.{leb}
 use Rattle.words.specs.Field.{field}
@@ -24,3 +24,8 @@ nextPosition at word =
       x = onwards (at .x) (totalWidth word);
       y = cond (leb (totalWidth word) (at .x + 1)) (onwards (at .y) (totalLines word)) (at .y);
     }
+
+-- the position after so many moves
+unfoldable pub positionAfter : Position → ℕ → ℕ → Position
+positionAfter at zero word = at
+positionAfter at (suc count) word = positionAfter (nextPosition at word) count word

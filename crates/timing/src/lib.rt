@@ -1,8 +1,11 @@
-// Timing: the circular window, the signals of a position and the move to the next one.
+// Timing: the circular window, the signals of a position, its moves, and the walk to the next blanked one.
 ghost use mathlib.Core.Path.{_≡_};
+ghost use mathlib.Core.Bool.{false};
+ghost use Prim.Native.Nat.{ℕ, _<_, min};
 ghost use Rattle.timing.specs.Window.{inWindow};
 ghost use Rattle.timing.specs.Signals.{holds, signalsAt};
-ghost use Rattle.timing.specs.Move.{nextPosition};
+ghost use Rattle.timing.specs.Move.{nextPosition, positionAfter};
+ghost use Rattle.timing.specs.Walk.{walked};
 
 // Whether p is in the window from on to off.
 pub fn in_window(on: u32, off: u32, p: u32) -> bool
@@ -22,6 +25,13 @@ fn holds(word: u32, p: u32) -> bool
     ensures { λ r. ⌜ r ≡ holds word p ⌝ }
 {
     in_window(words::field(word, 11, 0), words::field(word, 27, 16), p)
+}
+
+// The lesser of two numbers.
+fn lesser(a: u32, b: u32) -> u32
+    ensures { λ r. ⌜ r ≡ min a b ⌝ }
+{
+    if a < b { a } else { b }
 }
 
 // Where the beam is.
@@ -51,6 +61,30 @@ impl Position {
         }
         Self { x: 0, y: 0 }
     }
+
+    // The position after so many moves, under control word 1: in closed form.
+    pub fn after(self, count: u32, total: u32) -> Self
+        ensures { λ r. ⌜ r ≡ positionAfter self count total ⌝ }
+    {
+        if count == 0 {
+            return self;
+        }
+        let last_x = words::field(total, 11, 0);
+        let last_y = words::field(total, 27, 16);
+        let dots = lesser(self.x, last_x) as u64 + count as u64;
+        let width = last_x as u64 + 1;
+        let ends = dots / width;
+        let x = (dots % width) as u32;
+        if ends == 0 {
+            return Self { x, y: self.y };
+        }
+        let lines = lesser(self.y, last_y) as u64 + ends;
+        let height = last_y as u64 + 1;
+        Self {
+            x,
+            y: (lines % height) as u32,
+        }
+    }
 }
 
 // What a position reports.
@@ -58,6 +92,12 @@ pub struct Signals {
     pub hsync: bool,
     pub vsync: bool,
     pub blank: bool,
+}
+
+// How far a walk came: the position, and the moves left.
+pub struct Walk {
+    pub at: Position,
+    pub left: u32,
 }
 
 // Control words 2 to 5: a window each.
@@ -85,5 +125,38 @@ impl Windows {
             vsync,
             blank,
         }
+    }
+
+    // How many positions of a line are clear, from a clear one on, up to where horizontal blank may come on: at least 1.
+    fn clear_run(self, at: Position, total: u32) -> u32
+        ensures { λ r. ⌜ (0 < r) × (signalsAt self at .blank ≡ false → (i : ℕ) → i < r → signalsAt self (positionAfter at i total) .blank ≡ false) ⌝ }
+    {
+        let last = words::field(total, 11, 0);
+        let on = words::field(self.hblank, 11, 0);
+        if last <= at.x {
+            return 1;
+        }
+        if at.x < on {
+            return lesser(on, last + 1) - at.x;
+        }
+        last + 1 - at.x
+    }
+
+    // On to the first blanked position, by at most so many moves.
+    pub fn to_blank(self, from: Position, total: u32, most: u32) -> Walk
+        ensures { λ r. ⌜ r ≡ walked self from total most ⌝ }
+    {
+        let mut at = from;
+        let mut left = most;
+        while left != 0 {
+            let signals = self.signals(at);
+            if signals.blank {
+                return Walk { at, left };
+            }
+            let run = lesser(self.clear_run(at, total), left);
+            at = at.after(run, total);
+            left -= run;
+        }
+        Walk { at, left }
     }
 }
