@@ -1,0 +1,5 @@
+pub mod Blocks
+pub mod Naming
+pub mod Kept
+pub mod Store
+pub mod Unique

@@ -1,0 +1,4 @@
+pub mod Blocks
+pub mod Named
+pub mod Kept
+pub mod Store
