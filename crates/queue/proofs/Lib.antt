@@ -1,0 +1,4 @@
+pub mod Slots
+pub mod Order
+pub mod Rule
+pub mod Unique
