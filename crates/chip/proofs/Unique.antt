@@ -1,0 +1,145 @@
+-- No second answer meets a contract of this crate, and none leaves another store. Assumes nothing.
+use Prim.Native.Nat.{ℕ}
+use mathlib.Core.Path.{_≡_, refl, ap, sym, _∙_}
+use mathlib.Core.List.{[], _∷_}
+use denote.Ref.{now}
+use lib.ListN.{getD}
+use Rattle.rules.specs.Rule.{Outcome, ok, refused}
+use Rattle.rules.specs.Faults.{Numbered}
+use Rattle.rules.specs.Unique.{OneAnswer, OneOutcome}
+use Rattle.rules.proofs.Unique.{by-equation, by-saying, by-outcome}
+use Rattle.timing.specs.declared.Signals.{Signals}
+use Rattle.chip.specs.Refusal.{numbered}
+use Rattle.chip.specs.Write as write-spec
+use Rattle.chip.specs.Read as read-spec
+use Rattle.chip.specs.Dot as dot-spec
+use Rattle.chip.specs.Dots as dots-spec
+use Rattle.chip.specs.declared.refusal.Refusal.{Refusal}
+use Rattle.chip.specs.declared.refusal.Refusal.the-variants.{NoRegister, ReadOnly, StrayBits, QueueFull, StoreLength, BadState}
+use Rattle.chip.specs.declared.state.State.{State}
+use Rattle.chip.specs.declared.write.Answer.{Answer as WriteAnswer}
+use Rattle.chip.specs.declared.write.Answer.the-variants.{Done, Refused as WriteRefused}
+use Rattle.chip.specs.declared.write.Written.{Written}
+use Rattle.chip.specs.declared.read.Answer.{Answer as ReadAnswer}
+use Rattle.chip.specs.declared.read.Answer.the-variants.{Word, Refused as ReadRefused}
+use Rattle.chip.specs.declared.read.ReadBack.{ReadBack}
+use Rattle.chip.specs.declared.dot.Answer.{Answer as DotAnswer}
+use Rattle.chip.specs.declared.dot.Answer.the-variants.{Reported as DotReported, Refused as DotRefused}
+use Rattle.chip.specs.declared.dot.Dotted.{Dotted}
+use Rattle.chip.specs.declared.dots.Report.{Report}
+use Rattle.chip.specs.declared.dots.Answer.{Answer as DotsAnswer}
+use Rattle.chip.specs.declared.dots.Answer.the-variants.{Reported as DotsReported, Refused as DotsRefused}
+use Rattle.chip.specs.declared.dots.Ran.{Ran}
+use Rattle.chip.proofs.refusal.Refusal.number.Reads as number
+use Rattle.chip.proofs.refusal.Refusal.place.Reads as place
+use Rattle.chip.proofs.state.State.new.Reads as new
+use Rattle.chip.proofs.state.State.good.Reads as good
+use Rattle.chip.proofs.state.State.write.Reads as write
+use Rattle.chip.proofs.state.State.read.Reads as read
+use Rattle.chip.proofs.state.State.dot.Reads as dot
+use Rattle.chip.proofs.state.State.dots.Reads as dots
+
+pub number-unique : OneAnswer number.Post
+number-unique = by-equation _ _
+
+pub place-unique : OneAnswer place.Post
+place-unique = by-equation _ _
+
+pub new-unique : OneAnswer new.Post
+new-unique = by-equation _ _
+
+pub good-unique : OneAnswer good.Post
+good-unique = by-equation _ _
+
+-- ---- an answer is known by what it says
+
+-- the refusal of a number and its values
+abbrev refusalOf : Numbered → Refusal
+refusalOf said =
+    let place = getD (said .values) 0 0 in
+    getD (BadState ∷ NoRegister place ∷ ReadOnly place ∷ StrayBits place ∷ QueueFull place ∷ StoreLength ∷ []) (said .number) BadState
+
+known : (refusal : Refusal) → refusalOf (numbered refusal) ≡ refusal
+known (NoRegister address) = refl
+known (ReadOnly address) = refl
+known (StrayBits address) = refl
+known (QueueFull address) = refl
+known StoreLength = refl
+known BadState = refl
+
+module _ {Said Answer : Type 0} (told : Answer → Outcome Numbered Said) (answer-of : Outcome Numbered Said → Answer)
+    (back : (answer : Answer) → answer-of (told answer) ≡ answer) where
+  same-answer : (answer other : Answer) → told answer ≡ told other → answer ≡ other
+  same-answer answer other says = sym (back answer) ∙ ap answer-of says ∙ back other
+
+-- ---- write
+
+abbrev write-answer : Outcome Numbered (Unit {0}) → WriteAnswer
+write-answer (ok done) = Done
+write-answer (refused refusal) = WriteRefused (refusalOf refusal)
+
+write-back : (answer : WriteAnswer) → write-answer (write-spec.told answer) ≡ answer
+write-back Done = refl
+write-back (WriteRefused refusal) = ap WriteRefused (known refusal)
+
+pub write-unique : OneOutcome (λ k exit. now (exit .1 .0)) write.Post
+write-unique =
+    by-outcome (λ k (r : Written). r .state) (λ k (r : Written). write-spec.told (r .answer))
+    (λ k (r : Written) (r′ : Written) states says.
+    ap (λ (state : State). record { state = state; answer = r .answer }) states
+    ∙ ap (λ (answer : WriteAnswer). record { state = r′ .state; answer = answer }) (same-answer write-spec.told write-answer write-back (r .answer) (r′ .answer) says))
+    _ (λ k exit. now (exit .1 .0)) _
+
+-- ---- read
+
+abbrev read-answer : Outcome Numbered ℕ → ReadAnswer
+read-answer (ok word) = Word word
+read-answer (refused refusal) = ReadRefused (refusalOf refusal)
+
+read-back : (answer : ReadAnswer) → read-answer (read-spec.told answer) ≡ answer
+read-back (Word word) = refl
+read-back (ReadRefused refusal) = ap ReadRefused (known refusal)
+
+pub read-unique : OneAnswer read.Post
+read-unique =
+    by-saying (λ k (r : ReadBack). r .state) (λ k (r : ReadBack). read-spec.told (r .answer))
+    (λ k (r : ReadBack) (r′ : ReadBack) states says.
+    ap (λ (state : State). record { state = state; answer = r .answer }) states
+    ∙ ap (λ (answer : ReadAnswer). record { state = r′ .state; answer = answer }) (same-answer read-spec.told read-answer read-back (r .answer) (r′ .answer) says))
+    _ _ _
+
+-- ---- dot
+
+abbrev dot-answer : Outcome Numbered Signals → DotAnswer
+dot-answer (ok signals) = DotReported signals
+dot-answer (refused refusal) = DotRefused (refusalOf refusal)
+
+dot-back : (answer : DotAnswer) → dot-answer (dot-spec.told answer) ≡ answer
+dot-back (DotReported signals) = refl
+dot-back (DotRefused refusal) = ap DotRefused (known refusal)
+
+pub dot-unique : OneOutcome (λ k exit. now (exit .1 .0)) dot.Post
+dot-unique =
+    by-outcome (λ k (r : Dotted). r .state) (λ k (r : Dotted). dot-spec.told (r .answer))
+    (λ k (r : Dotted) (r′ : Dotted) states says.
+    ap (λ (state : State). record { state = state; answer = r .answer }) states
+    ∙ ap (λ (answer : DotAnswer). record { state = r′ .state; answer = answer }) (same-answer dot-spec.told dot-answer dot-back (r .answer) (r′ .answer) says))
+    _ (λ k exit. now (exit .1 .0)) _
+
+-- ---- dots
+
+abbrev dots-answer : Outcome Numbered Report → DotsAnswer
+dots-answer (ok report) = DotsReported report
+dots-answer (refused refusal) = DotsRefused (refusalOf refusal)
+
+dots-back : (answer : DotsAnswer) → dots-answer (dots-spec.told answer) ≡ answer
+dots-back (DotsReported report) = refl
+dots-back (DotsRefused refusal) = ap DotsRefused (known refusal)
+
+pub dots-unique : OneOutcome (λ k exit. now (exit .1 .0)) dots.Post
+dots-unique =
+    by-outcome (λ k (r : Ran). r .state) (λ k (r : Ran). dots-spec.told (r .answer))
+    (λ k (r : Ran) (r′ : Ran) states says.
+    ap (λ (state : State). record { state = state; answer = r .answer }) states
+    ∙ ap (λ (answer : DotsAnswer). record { state = r′ .state; answer = answer }) (same-answer dots-spec.told dots-answer dots-back (r .answer) (r′ .answer) says))
+    _ (λ k exit. now (exit .1 .0)) _

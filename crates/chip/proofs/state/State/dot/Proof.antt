@@ -1,0 +1,61 @@
+-- `chip::state::State::dot` meets its contract: 11, then 5, else what a dot does and reports. Assumes nothing.
+use mathlib.Core.Path.{sym, _∙_, ap}
+use borrow.Author.Needs.{needs}
+use Rattle.rules.specs.Rule.{ok}
+use Rattle.timing.specs.declared.Signals.{Signals}
+use Rattle.chip.specs.Call.{Chip}
+use Rattle.chip.specs.Dot.{afterDot}
+use Rattle.chip.proofs.Fit.{fit-says}
+use Rattle.chip.proofs.Runs.{dot-unfit, dot-done}
+use Rattle.chip.proofs.state.State.dot.Statement.{statement}
+use Rattle.chip.proofs.state.State.dot.Tie as tie
+
+fit-requires : tie.Need-fit-requires
+fit-requires c κs = search needs
+
+enum-known-fit : tie.Need-enum-known-fit
+enum-known-fit c = search needs
+
+returns : tie.Need-returns
+returns c =
+    let f = c .before .before .before in
+    sym (dot-unfit (f .before .before .args .self, f .before .before .args .store .now) _ (sym (f .fit .ensures) ∙ c .before .fit2 .given .1))
+
+enum-told : tie.Need-enum-told
+enum-told c = search needs
+
+signals-requires : tie.Need-signals-requires
+signals-requires c κs = search needs
+
+step-requires : tie.Need-step-requires
+step-requires c κs =
+    let e = c .before .before in
+    let f = e .before .before in
+    fit-says _ _ (sym (f .fit .ensures) ∙ e .enum-told .given .1)
+
+same-length : tie.Need-same-length
+same-length c = search needs
+
+returns-2 : tie.Need-returns-2
+returns-2 c =
+    let t = c .before .before in
+    let g = t .before .before in
+    let e = g .before in
+    let f = e .before .before in
+    let chip : Chip = (f .before .before .args .self, f .before .before .args .store .now) in
+    ap (λ (after : Chip). (after, ok (g .signals .result))) (t .step .ensures)
+    ∙ ap (λ (signals : Signals). (afterDot chip, ok signals)) (g .signals .ensures)
+    ∙ sym (dot-done chip (sym (f .fit .ensures) ∙ e .enum-told .given .1))
+
+pub dot-spec : {M : Type 1} → statement M
+dot-spec =
+    tie.close
+    (tie.spec
+    fit-requires
+    enum-known-fit
+    returns
+    enum-told
+    signals-requires
+    step-requires
+    same-length
+    returns-2)

@@ -1,0 +1,81 @@
+-- `chip::state::State::dots` meets its contract: 11, then 5, else all dots but the last, and then the last. Assumes nothing.
+use mathlib.Core.Path.{ap, sym, _∙_, _≡_}
+use borrow.Author.Needs.{needs}
+use Rattle.rules.specs.Rule.{ok}
+use Rattle.timing.specs.declared.Signals.{Signals}
+use Rattle.chip.specs.Call.{Chip}
+use Rattle.chip.specs.Dot.{signalsOf, afterDot}
+use Rattle.chip.specs.declared.dots.Report.the-variants.{Last}
+use Rattle.chip.proofs.Fit.{fit-says}
+use Rattle.chip.proofs.Runs.{dots-unfit, dots-none, dots-some}
+use Rattle.chip.proofs.state.State.dots.Statement.{statement}
+use Rattle.chip.proofs.state.State.dots.Tie as tie
+
+fit-requires : tie.Need-fit-requires
+fit-requires c κs = search needs
+
+enum-known-fit : tie.Need-enum-known-fit
+enum-known-fit c = search needs
+
+returns : tie.Need-returns
+returns c =
+    let f = c .before .before .before in
+    let s = f .before .before .args in
+    sym (dots-unfit (s .self, s .store .now) (s .count) _ (sym (f .fit .ensures) ∙ c .before .fit2 .given .1))
+
+enum-told : tie.Need-enum-told
+enum-told c = search needs
+
+returns-2 : tie.Need-returns-2
+returns-2 c =
+    let f = c .before .before .before in
+    let s = f .before .before .args in
+    sym (dots-none (s .self, s .store .now) (s .count) (sym (f .fit .ensures) ∙ c .before .enum-told .given .1) (c .if1 .taken))
+
+sub-steps : tie.Need-sub-steps
+sub-steps c = search needs
+
+steps-requires : tie.Need-steps-requires
+steps-requires c κs =
+    let e = c .before .before in
+    fit-says _ _ (sym (e .before .before .fit .ensures) ∙ e .enum-told .given .1)
+
+signals-requires : tie.Need-signals-requires
+signals-requires c κs = search needs
+
+step-requires : tie.Need-step-requires
+step-requires c κs = (c .before .before .before .before .steps .ensures .1, c .before .before .before .before .steps .ensures .2)
+
+same-length : tie.Need-same-length
+same-length c = search needs
+
+returns-3 : tie.Need-returns-3
+returns-3 c =
+    let t = c .before .before in
+    let g = t .before .before in
+    let p = g .before .before .before in
+    let e = p .before .before .before in
+    let f = e .before .before in
+    let s = f .before .before .args in
+    let chip : Chip = (s .self, s .store .now) in
+    let before : Chip = (p .steps .result, p .steps .last .1 .0) in
+    ap (λ (after : Chip). (after, ok (Last (g .signals .result)))) (t .step .ensures)
+    ∙ ap (λ (signals : Signals). (afterDot before, ok (Last signals))) (g .signals .ensures)
+    ∙ ap (λ (before : Chip). (afterDot before, ok (Last (signalsOf (before .0))))) (p .steps .ensures .0)
+    ∙ sym (dots-some chip (s .count) (sym (f .fit .ensures) ∙ e .enum-told .given .1) (p .before .before .if1 .left))
+
+pub dots-spec : {M : Type 1} → statement M
+dots-spec =
+    tie.close
+    (tie.spec
+    fit-requires
+    enum-known-fit
+    returns
+    enum-told
+    returns-2
+    sub-steps
+    steps-requires
+    signals-requires
+    step-requires
+    same-length
+    returns-3)

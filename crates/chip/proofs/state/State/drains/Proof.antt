@@ -1,0 +1,19 @@
+-- `chip::state::State::drains` meets its contract: both tests, one after the other. Assumes nothing.
+use borrow.Author.Needs.{needs}
+use Rattle.chip.specs.Dot.{drains}
+use Rattle.chip.proofs.state.State.drains.Statement.{statement}
+use Rattle.chip.proofs.state.State.drains.Tie as tie
+
+signals-requires : tie.Need-signals-requires
+signals-requires c κs = search needs
+
+returns : tie.Need-returns
+unfolding drains
+returns c = simp (← c .before .before .signals .ensures, c .before .if1 .taken)
+
+returns-2 : tie.Need-returns-2
+unfolding drains
+returns-2 c = simp (← c .before .signals .ensures, c .if1 .left)
+
+pub drains-spec : {M : Type 1} → statement M
+drains-spec = tie.close (tie.spec signals-requires returns returns-2)

@@ -1,0 +1,18 @@
+-- `chip::write::read_only` meets its contract: among control words the number decides, elsewhere nothing is. Assumes nothing.
+use mathlib.Core.Path.{sym}
+use borrow.Author.Needs.{needs}
+use Rattle.chip.proofs.Blocks.{elsewhere-writable}
+use Rattle.chip.proofs.write.read_only.Statement.{statement}
+use Rattle.chip.proofs.write.read_only.Tie as tie
+
+enum-told : tie.Need-enum-told
+enum-told c = search needs
+
+returns : tie.Need-returns
+returns c = cc
+
+returns-2 : tie.Need-returns-2
+returns-2 c = sym (elsewhere-writable (c .before .args .register .block) (c .before .args .register .word) (c .match .keys2))
+
+pub read-only-spec : {M : Type 1} → statement M
+read-only-spec = tie.close (tie.spec enum-told returns returns-2)

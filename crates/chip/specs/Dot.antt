@@ -1,0 +1,58 @@
+-- One dot: it reports the signals at the position; then, if blanked and the queue isn't empty, the oldest colour write is applied; then it moves.
+use Prim.Native.Nat.{ℕ}
+use mathlib.Core.Bool.{Bool, cond, _&&_}
+use mathlib.Core.List.{List}
+use lib.Dec.{ltb}
+use lib.ListN.{length, set}
+use Rattle.rules.specs.Rule.{Outcome, ok, refused}
+use Rattle.rules.specs.Faults.{Numbered, unless}
+use Rattle.timing.specs.Signals.{signalsAt}
+use Rattle.timing.specs.Move.{nextPosition}
+use Rattle.timing.specs.declared.Signals.{Signals}
+use Rattle.registers.specs.Store.{storeIndex}
+use Rattle.registers.specs.declared.Block.the-variants.{ColourMap}
+use Rattle.registers.specs.declared.Register.{Register}
+use Rattle.queue.specs.Queue.{oldest, popped}
+use Rattle.queue.specs.declared.Waiting.{Waiting}
+use Rattle.chip.specs.Refusal.{numbered}
+use Rattle.chip.specs.State.{controlWord, windowsOf, withPosition, withQueue}
+use Rattle.chip.specs.Call.{Chip, callFaults}
+use Rattle.chip.specs.declared.state.State.{State}
+use Rattle.chip.specs.declared.dot.Answer.{Answer}
+use Rattle.chip.specs.declared.dot.Answer.the-variants.{Reported, Refused}
+
+-- what the answer says: the signals, or a refusal's number and values
+abbrev pub told : Answer → Outcome Numbered Signals
+told (Reported signals) = ok signals
+told (Refused refusal) = refused (numbered refusal)
+
+-- the signals at the position
+abbrev pub signalsOf : State → Signals
+signalsOf state = signalsAt (windowsOf state) (state .at)
+
+-- the dot is blanked and something waits
+unfoldable pub drains : State → Bool
+drains state = signalsOf state .blank && ltb 0 (state .queue .waiting)
+
+-- where a colour write goes
+abbrev pub target : Waiting → ℕ
+target write = storeIndex (record { block = ColourMap; word = write .entry })
+
+-- the oldest write leaves the queue for its place in the store
+abbrev pub applied : Chip → Chip
+applied chip = (
+  withQueue (chip .0) (cond (drains (chip .0)) (popped (chip .0 .queue)) (chip .0 .queue)),
+  cond (drains (chip .0)) (set (chip .1) (target (oldest (chip .0 .queue))) (oldest (chip .0 .queue) .colour)) (chip .1),
+)
+
+-- the position moves on, by control word 1
+abbrev pub moved : State → State
+moved state = withPosition state (nextPosition (state .at) (controlWord state 1))
+
+-- what a dot leaves
+unfoldable pub afterDot : Chip → Chip
+afterDot chip = (moved (applied chip .0), applied chip .1)
+
+-- what a dot leaves and answers; it is refused by 11, then 5
+unfoldable pub dotted : Chip → Chip × Outcome Numbered Signals
+dotted chip = unless (callFaults (chip .0) (length (chip .1))) chip (afterDot chip, signalsOf (chip .0))

@@ -1,0 +1,40 @@
+-- Many dots: one after the other, checked once.
+use Prim.Native.Nat.{ℕ, zero, suc, _<_}
+use mathlib.Core.Path.{_≡_}
+use mathlib.Core.Bool.{true}
+use lib.ListN.{length}
+use Rattle.rules.specs.Rule.{Outcome, ok, refused}
+use Rattle.rules.specs.Faults.{Numbered, unless}
+use Rattle.registers.specs.Store.{storeLength}
+use Rattle.chip.specs.Refusal.{numbered}
+use Rattle.chip.specs.State.{goodState}
+use Rattle.chip.specs.Call.{Chip, callFaults}
+use Rattle.chip.specs.Dot.{signalsOf, afterDot}
+use Rattle.chip.specs.declared.dots.Report.{Report}
+use Rattle.chip.specs.declared.dots.Report.the-variants.{Nothing, Last}
+use Rattle.chip.specs.declared.dots.Answer.{Answer}
+use Rattle.chip.specs.declared.dots.Answer.the-variants.{Reported, Refused}
+
+-- what the answer says: what the last dot reported, or a refusal's number and values
+abbrev pub told : Answer → Outcome Numbered Report
+told (Reported report) = ok report
+told (Refused refusal) = refused (numbered refusal)
+
+-- what so many dots leave
+unfoldable pub afterDots : ℕ → Chip → Chip
+afterDots zero chip = chip
+afterDots (suc count) chip = afterDots count (afterDot chip)
+
+-- some of the dots have been done: fewer are left, and doing those leaves what doing all leaves
+abbrev pub Leapt : Chip → ℕ → Chip → ℕ → Type 0
+Leapt before count after left =
+    (goodState (after .0) ≡ true) × (length (after .1) ≡ storeLength) × (left < count) × (afterDots left after ≡ afterDots count before)
+
+-- what the last of them reports; no dot reports nothing
+unfoldable pub lastReport : ℕ → Chip → Report
+lastReport zero chip = Nothing
+lastReport (suc count) chip = Last (signalsOf (afterDots count chip .0))
+
+-- what a run of dots leaves and answers; it is refused by 11, then 5
+unfoldable pub ran : Chip → ℕ → Chip × Outcome Numbered Report
+ran chip count = unless (callFaults (chip .0) (length (chip .1))) chip (afterDots count chip, lastReport count chip)

@@ -1,0 +1,7 @@
+pub mod Refusal
+pub mod State
+pub mod Call
+pub mod Write
+pub mod Read
+pub mod Dot
+pub mod Dots

@@ -1,0 +1,68 @@
+-- A register read.
+use Prim.Native.Nat.{ℕ, _+_, _*_, _^_}
+use mathlib.Core.Bool.{true, cond}
+use mathlib.Core.List.{List, [], _∷_, _++_}
+use lib.Dec.{eqb}
+use lib.ListN.{length, getD}
+use Rattle.rules.specs.Rule.{Outcome, ok, refused}
+use Rattle.rules.specs.Faults.{Numbered, Fault, fault, unless}
+use Rattle.registers.specs.Named.{placeOf, named}
+use Rattle.registers.specs.Kept.{keptOf}
+use Rattle.registers.specs.Store.{storeIndex}
+use Rattle.registers.specs.declared.Block.{Block}
+use Rattle.registers.specs.declared.Block.the-variants.{Control, WindowEntries, ColourMap, GammaMap, CursorGlyph, CursorColours}
+use Rattle.registers.specs.declared.Register.{Register}
+use Rattle.registers.specs.declared.Named.{Named}
+use Rattle.registers.specs.declared.Named.the-variants.{Is, Nothing}
+use Rattle.queue.specs.Queue.{room}
+use Rattle.chip.specs.Refusal.{numbered}
+use Rattle.chip.specs.State.{controlWord}
+use Rattle.chip.specs.Call.{Chip, callFaults}
+use Rattle.chip.specs.declared.state.State.{State}
+use Rattle.chip.specs.declared.read.Answer.{Answer}
+use Rattle.chip.specs.declared.read.Answer.the-variants.{Word, Refused}
+
+-- what the answer says: a word, or a refusal's number and values
+abbrev pub told : Answer → Outcome Numbered ℕ
+told (Word word) = ok word
+told (Refused refusal) = refused (numbered refusal)
+
+-- word 9 is the room in the queue, word 10 the position, x in 11..0 and y in 27..16; the others are as stored
+unfoldable pub shownOfControl : State → ℕ → ℕ
+shownOfControl state word =
+    cond (eqb word 9) (room (state .queue))
+    (cond (eqb word 10) (state .at .y * 2 ^ 16 + state .at .x)
+    (controlWord state word))
+
+-- the stored word's kept bits
+abbrev pub stored : List ℕ → Register → ℕ
+stored store register = keptOf register (getD store (storeIndex register) 0)
+
+-- a control word is the state's, every other word is the stored one, not a waiting one
+abbrev pub shownIn : Chip → Block → Register → ℕ
+shownIn chip Control register = shownOfControl (chip .0) (register .word)
+shownIn chip WindowEntries register = stored (chip .1) register
+shownIn chip ColourMap register = stored (chip .1) register
+shownIn chip GammaMap register = stored (chip .1) register
+shownIn chip CursorGlyph register = stored (chip .1) register
+shownIn chip CursorColours register = stored (chip .1) register
+
+abbrev pub shown : Chip → Register → ℕ
+shown chip register = shownIn chip (register .block) register
+
+abbrev pub shownNamed : Chip → Named → ℕ
+shownNamed chip Nothing = 0
+shownNamed chip (Is register) = shown chip register
+
+-- an address that names nothing: 1
+abbrev pub nameFaults : Named → ℕ → List Fault
+nameFaults Nothing place = fault 1 place true ∷ []
+nameFaults (Is register) place = []
+
+-- 11, 5, 1
+abbrev pub readFaults : Chip → ℕ → List Fault
+readFaults chip address = callFaults (chip .0) (length (chip .1)) ++ nameFaults (named address) (placeOf address)
+
+-- what a read leaves and answers
+unfoldable pub readBack : Chip → ℕ → Chip × Outcome Numbered ℕ
+readBack chip address = unless (readFaults chip address) chip (chip, shownNamed chip (named address))

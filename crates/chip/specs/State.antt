@@ -1,0 +1,54 @@
+-- The state: control words, position and queue; and when it keeps its rule.
+use Prim.Native.Nat.{ℕ, suc}
+use mathlib.Core.Bool.{Bool, true, _&&_}
+use mathlib.Core.List.{List, [], _∷_}
+use lib.Dec.{leb}
+use lib.ListN.{getD, set, replicate}
+use Rattle.timing.specs.declared.Position.{Position}
+use Rattle.timing.specs.declared.Windows.{Windows}
+use Rattle.registers.specs.Kept.{fits}
+use Rattle.registers.specs.declared.Block.the-variants.{Control}
+use Rattle.registers.specs.declared.Register.{Register}
+use Rattle.queue.specs.Queue.{empty}
+use Rattle.queue.specs.Good.{goodQueue}
+use Rattle.queue.specs.declared.Queue.{Queue}
+use Rattle.chip.specs.declared.state.State.{State}
+
+-- all zero, its queue empty
+abbrev pub fresh : State
+fresh = record { control = replicate 9 0; at = record { x = 0; y = 0 }; queue = empty }
+
+-- a control word
+abbrev pub controlWord : State → ℕ → ℕ
+controlWord state word = getD (state .control) word 0
+
+-- control words 2 to 5: horizontal sync, vertical sync, horizontal blank, vertical blank
+abbrev pub windowsOf : State → Windows
+windowsOf state =
+    record {
+      hsync = controlWord state 2;
+      vsync = controlWord state 3;
+      hblank = controlWord state 4;
+      vblank = controlWord state 5;
+    }
+
+-- a state with one control word changed
+abbrev pub withWord : State → ℕ → ℕ → State
+withWord state word value = record { control = set (state .control) word value; at = state .at; queue = state .queue }
+
+-- a state at another position
+abbrev pub withPosition : State → Position → State
+withPosition state at = record { control = state .control; at = at; queue = state .queue }
+
+-- a state with another queue
+abbrev pub withQueue : State → Queue → State
+withQueue state queue = record { control = state .control; at = state .at; queue = queue }
+
+-- none of the control words, of which the first has this number, has stray bits
+abbrev pub goodWords : ℕ → List ℕ → Bool
+goodWords word [] = true
+goodWords word (value ∷ values) = fits (record { block = Control; word = word }) value && goodWords (suc word) values
+
+-- the rule of number 11: no stray control bits, a position of at most 4,095, at most 64 waiting, each to a colour entry and of at most 24 bits
+unfoldable pub goodState : State → Bool
+goodState state = goodWords 0 (state .control) && leb (state .at .x) 4095 && leb (state .at .y) 4095 && goodQueue (state .queue)

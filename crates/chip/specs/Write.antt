@@ -1,0 +1,90 @@
+-- A register write.
+use Prim.Native.Nat.{ℕ, _<_}
+use mathlib.Core.Bool.{Bool, true, false, not, _&&_}
+use mathlib.Core.List.{List, [], _∷_, _++_}
+use lib.Dec.{leb}
+use lib.ListN.{length, set}
+use Rattle.rules.specs.Rule.{Outcome, ok, refused}
+use Rattle.rules.specs.Faults.{Numbered, Fault, fault, unless}
+use Rattle.registers.specs.Blocks.{count}
+use Rattle.registers.specs.Named.{placeOf, named}
+use Rattle.registers.specs.Kept.{fits}
+use Rattle.registers.specs.Store.{storeIndex}
+use Rattle.registers.specs.declared.Block.{Block}
+use Rattle.registers.specs.declared.Block.the-variants.{Control, WindowEntries, ColourMap, GammaMap, CursorGlyph, CursorColours}
+use Rattle.registers.specs.declared.Register.{Register}
+use Rattle.registers.specs.declared.Named.{Named}
+use Rattle.registers.specs.declared.Named.the-variants.{Is, Nothing}
+use Rattle.queue.specs.Queue.{full, pushed}
+use Rattle.chip.specs.Refusal.{numbered}
+use Rattle.chip.specs.State.{withWord, withQueue}
+use Rattle.chip.specs.Call.{Chip, callFaults}
+use Rattle.chip.specs.declared.state.State.{State}
+use Rattle.chip.specs.declared.write.Answer.{Answer}
+use Rattle.chip.specs.declared.write.Answer.the-variants.{Done, Refused}
+
+-- what the answer says: done, or a refusal's number and values
+abbrev pub told : Answer → Outcome Numbered (Unit {0})
+told Done = ok tt
+told (Refused refusal) = refused (numbered refusal)
+
+-- control words 9 and 10 can only be read
+abbrev pub readOnlyIn : Block → ℕ → Bool
+readOnlyIn Control word = leb 9 word
+readOnlyIn WindowEntries word = false
+readOnlyIn ColourMap word = false
+readOnlyIn GammaMap word = false
+readOnlyIn CursorGlyph word = false
+readOnlyIn CursorColours word = false
+
+abbrev pub readOnly : Register → Bool
+readOnly register = readOnlyIn (register .block) (register .word)
+
+-- colour writes, those to the colour map block only, wait; other writes act at once
+abbrev pub waitsIn : Block → Bool
+waitsIn Control = false
+waitsIn WindowEntries = false
+waitsIn ColourMap = true
+waitsIn GammaMap = false
+waitsIn CursorGlyph = false
+waitsIn CursorColours = false
+
+abbrev pub waits : Register → Bool
+waits register = waitsIn (register .block)
+
+-- a write would wait, and 64 wait
+abbrev pub noRoomFor : State → Register → Bool
+noRoomFor state register = waits register && full (state .queue)
+
+-- what a write of a value to what its address names is refused for, at the address: 1, 2, 3, 4
+abbrev pub registerFaults : Chip → Named → ℕ → ℕ → List Fault
+registerFaults chip Nothing place value = fault 1 place true ∷ []
+registerFaults chip (Is register) place value =
+    fault 2 place (readOnly register)
+    ∷ fault 3 place (not (fits register value))
+    ∷ fault 4 place (noRoomFor (chip .0) register)
+    ∷ []
+
+-- 11, 5, 1, 2, 3, 4
+abbrev pub writeFaults : Chip → ℕ → ℕ → List Fault
+writeFaults chip address value = callFaults (chip .0) (length (chip .1)) ++ registerFaults chip (named address) (placeOf address) value
+
+-- a control word is the state's, a colour write joins the queue, every other word is the store's
+abbrev pub putIn : Chip → Block → Register → ℕ → Chip
+putIn chip Control register value = (withWord (chip .0) (register .word) value, chip .1)
+putIn chip WindowEntries register value = (chip .0, set (chip .1) (storeIndex register) value)
+putIn chip ColourMap register value = (withQueue (chip .0) (pushed (chip .0 .queue) (record { entry = register .word; colour = value })), chip .1)
+putIn chip GammaMap register value = (chip .0, set (chip .1) (storeIndex register) value)
+putIn chip CursorGlyph register value = (chip .0, set (chip .1) (storeIndex register) value)
+putIn chip CursorColours register value = (chip .0, set (chip .1) (storeIndex register) value)
+
+abbrev pub put : Chip → Register → ℕ → Chip
+put chip register value = putIn chip (register .block) register value
+
+abbrev pub putNamed : Chip → Named → ℕ → Chip
+putNamed chip Nothing value = chip
+putNamed chip (Is register) value = put chip register value
+
+-- what a write leaves and answers
+unfoldable pub written : Chip → ℕ → ℕ → Chip × Outcome Numbered (Unit {0})
+written chip address value = unless (writeFaults chip address value) chip (putNamed chip (named address) value, tt)

@@ -1,0 +1,116 @@
+// Many dots at once.
+ghost use mathlib.Core.Path.{_≡_};
+ghost use mathlib.Core.Bool.{true};
+ghost use Prim.Native.Nat.{_<_};
+ghost use lib.ListN.{length};
+ghost use Rattle.registers.specs.Store.{storeLength};
+ghost use Rattle.chip.specs.State.{goodState, withPosition};
+ghost use Rattle.chip.specs.Dots.{told, afterDots, Leapt, ran};
+use crate::refusal::Refusal;
+use crate::state::Fit;
+use crate::state::State;
+use timing::Position;
+use timing::Signals;
+
+// What the last of some dots reported; none where there was no dot.
+pub enum Report {
+    Nothing,
+    Last(Signals),
+}
+
+// What a run of dots answers.
+pub enum Answer {
+    Reported(Report),
+    Refused(Refusal),
+}
+
+// The state that a run of dots hands back, and its answer.
+pub struct Ran {
+    pub state: State,
+    pub answer: Answer,
+}
+
+// How far some dots led: the state, and the dots left.
+struct Leap {
+    state: State,
+    left: u32,
+}
+
+impl State {
+    // The state at another position.
+    fn at_position(mut self, at: Position) -> Self
+        ensures { λ r. ⌜ r ≡ withPosition self at ⌝ }
+    {
+        self.at = at;
+        self
+    }
+
+    // Some of the dots that are left: all where nothing waits, and no more than up to the next write that is applied.
+    fn leap(self, store: &mut [u32], left: u32) -> Leap
+        requires { ⌜ (goodState self ≡ true) × (length (now store) ≡ storeLength) × (0 < left) ⌝ }
+        ensures { λ r. ⌜ Leapt (self, now (store .entry)) left (r .state, now (store .exit)) (r .left) ⌝ }
+    {
+        let at = self.at;
+        let total = self.control[1];
+        if self.queue.waiting == 0 {
+            return Leap {
+                state: self.at_position(at.after(left, total)),
+                left: 0,
+            };
+        }
+        let walk = self.windows().to_blank(at, total, left);
+        let there = self.at_position(walk.at);
+        if walk.left == 0 {
+            return Leap {
+                state: there,
+                left: 0,
+            };
+        }
+        Leap {
+            state: there.step(store),
+            left: walk.left - 1,
+        }
+    }
+
+    // What so many dots leave.
+    fn steps(self, store: &mut [u32], count: u32) -> Self
+        requires { ⌜ (goodState self ≡ true) × (length (now store) ≡ storeLength) ⌝ }
+        ensures { λ r. ⌜ ((r, now (store .exit)) ≡ afterDots count (self, now (store .entry))) × (goodState r ≡ true) × (length (now (store .exit)) ≡ storeLength) ⌝ }
+    {
+        let mut state = self;
+        let mut left = count;
+        while 0 < left {
+            let leap = state.leap(store, left);
+            let next = leap.state;
+            state = next;
+            left = leap.left;
+        }
+        state
+    }
+
+    // So many dots.
+    pub fn dots(self, store: &mut [u32], count: u32) -> Ran
+        ensures { λ r. ⌜ ((r .state, now (store .exit)), told (r .answer)) ≡ ran (self, now (store .entry)) count ⌝ }
+    {
+        let fit = self.fit(store.len());
+        if let Fit::Refused(refusal) = fit {
+            return Ran {
+                state: self,
+                answer: Answer::Refused(refusal),
+            };
+        }
+        if count == 0 {
+            return Ran {
+                state: self,
+                answer: Answer::Reported(Report::Nothing),
+            };
+        }
+        let before = self.steps(store, count - 1);
+        let signals = before.signals();
+        let state = before.step(store);
+        Ran {
+            state,
+            answer: Answer::Reported(Report::Last(signals)),
+        }
+    }
+}

@@ -1,0 +1,7 @@
+// The chip: its state, register writes and reads, and dots.
+pub mod dot;
+pub mod dots;
+pub mod read;
+pub mod refusal;
+pub mod state;
+pub mod write;

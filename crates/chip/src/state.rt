@@ -1,0 +1,98 @@
+// The state: control words, position and queue, passed by value.
+ghost use mathlib.Core.Path.{_≡_};
+ghost use Rattle.chip.specs.State.{fresh, goodWords, goodState, windowsOf};
+ghost use Rattle.chip.specs.Call.{fit};
+use crate::refusal::Refusal;
+use queue::Queue;
+use registers::Block;
+use registers::Register;
+use timing::Position;
+use timing::Windows;
+
+// All that the chip holds besides the store.
+pub struct State {
+    pub control: [u32; 9],
+    pub at: Position,
+    pub queue: Queue,
+}
+
+// Whether a call may go on.
+pub(crate) enum Fit {
+    Yes,
+    Refused(Refusal),
+}
+
+impl State {
+    // A fresh state: all zero, its queue empty.
+    pub fn new() -> Self
+        ensures { λ r. ⌜ r ≡ fresh ⌝ }
+    {
+        Self {
+            control: [0; 9],
+            at: Position { x: 0, y: 0 },
+            queue: Queue::new(),
+        }
+    }
+
+    // Whether no control word has stray bits.
+    fn good_words(self) -> bool
+        ensures { λ r. ⌜ r ≡ goodWords 0 (self .control) ⌝ }
+    {
+        let mut word: usize = 0;
+        while word < 9 {
+            let value = self.control[word];
+            let register = Register {
+                block: Block::Control,
+                word: word as u32,
+            };
+            if register.fits(value) {
+                word += 1;
+            } else {
+                return false;
+            }
+        }
+        true
+    }
+
+    // Whether the state keeps its rule.
+    pub fn good(self) -> bool
+        ensures { λ r. ⌜ r ≡ goodState self ⌝ }
+    {
+        if !self.good_words() {
+            return false;
+        }
+        if 4095 < self.at.x {
+            return false;
+        }
+        if 4095 < self.at.y {
+            return false;
+        }
+        let queue = self.queue;
+        queue.good()
+    }
+
+    // Whether a call may go on with this state and a store of so many words.
+    pub(crate) fn fit(self, length: usize) -> Fit
+        ensures { λ r. ⌜ r ≡ fit self length ⌝ }
+    {
+        if !self.good() {
+            return Fit::Refused(Refusal::BadState);
+        }
+        if length != 4963 {
+            return Fit::Refused(Refusal::StoreLength);
+        }
+        Fit::Yes
+    }
+
+    // Control words 2 to 5.
+    pub(crate) fn windows(self) -> Windows
+        ensures { λ r. ⌜ r ≡ windowsOf self ⌝ }
+    {
+        Windows {
+            hsync: self.control[2],
+            vsync: self.control[3],
+            hblank: self.control[4],
+            vblank: self.control[5],
+        }
+    }
+}

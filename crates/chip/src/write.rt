@@ -1,0 +1,138 @@
+// Register writes.
+ghost use mathlib.Core.Path.{_≡_};
+ghost use mathlib.Core.Bool.{false};
+ghost use Prim.Native.Nat.{_<_};
+ghost use lib.ListN.{length};
+ghost use Rattle.registers.specs.Blocks.{count};
+ghost use Rattle.registers.specs.Store.{storeLength};
+ghost use Rattle.queue.specs.Queue.{pushed};
+ghost use Rattle.chip.specs.State.{withWord, withQueue};
+ghost use Rattle.chip.specs.Write.{readOnly, waits, noRoomFor, put, told, written};
+use crate::refusal::Refusal;
+use crate::state::Fit;
+use crate::state::State;
+use queue::Waiting;
+use registers::Block;
+use registers::Named;
+use registers::Register;
+
+// What a write answers.
+pub enum Answer {
+    Done,
+    Refused(Refusal),
+}
+
+// The state that a write hands back, and its answer.
+pub struct Written {
+    pub state: State,
+    pub answer: Answer,
+}
+
+// Whether a register can only be read: control words 9 and 10.
+fn read_only(register: Register) -> bool
+    ensures { λ r. ⌜ r ≡ readOnly register ⌝ }
+{
+    let block = register.block;
+    match block {
+        Block::Control => 9 <= register.word,
+        _ => false,
+    }
+}
+
+// Whether a write to a register waits: those to the colour map do.
+fn waits(register: Register) -> bool
+    ensures { λ r. ⌜ r ≡ waits register ⌝ }
+{
+    let block = register.block;
+    match block {
+        Block::ColourMap => true,
+        _ => false,
+    }
+}
+
+impl State {
+    // A refused write: the state as it was.
+    fn refused(self, refusal: Refusal) -> Written
+        ensures { λ r. ⌜ r ≡ record { state = self; answer = Answer.Refused refusal } ⌝ }
+    {
+        Written {
+            state: self,
+            answer: Answer::Refused(refusal),
+        }
+    }
+
+    // Whether a write to a register would wait and 64 wait already.
+    fn no_room_for(self, register: Register) -> bool
+        ensures { λ r. ⌜ r ≡ noRoomFor self register ⌝ }
+    {
+        let queue = self.queue;
+        if waits(register) { queue.full() } else { false }
+    }
+
+    // A value goes into a control word.
+    fn with_word(mut self, word: usize, value: u32) -> Self
+        requires { ⌜ word < 9 ⌝ }
+        ensures { λ r. ⌜ r ≡ withWord self word value ⌝ }
+    {
+        self.control[word] = value;
+        self
+    }
+
+    // A colour write joins the queue.
+    fn with_waiting(mut self, write: Waiting) -> Self
+        ensures { λ r. ⌜ r ≡ withQueue self (pushed (self .queue) write) ⌝ }
+    {
+        let queue = self.queue;
+        self.queue = queue.pushed(write);
+        self
+    }
+
+    // A value goes into a register, or into the queue for it.
+    fn put(self, store: &mut [u32], register: Register, value: u32) -> Self
+        requires { ⌜ (readOnly register ≡ false) × (register .word < count (register .block)) × (length (now store) ≡ storeLength) ⌝ }
+        ensures { λ r. ⌜ (r, now (store .exit)) ≡ put (self, now (store .entry)) register value ⌝ }
+    {
+        let block = register.block;
+        match block {
+            Block::Control => self.with_word(register.word as usize, value),
+            Block::ColourMap => self.with_waiting(Waiting {
+                entry: register.word,
+                colour: value,
+            }),
+            _ => {
+                let index = register.store_index();
+                store[index] = value;
+                self
+            }
+        }
+    }
+
+    // One register write.
+    pub fn write(self, store: &mut [u32], address: u32, value: u32) -> Written
+        ensures { λ r. ⌜ ((r .state, now (store .exit)), told (r .answer)) ≡ written (self, now (store .entry)) address value ⌝ }
+    {
+        let fit = self.fit(store.len());
+        if let Fit::Refused(refusal) = fit {
+            return self.refused(refusal);
+        }
+        let place = registers::place(address);
+        let named = Register::at(address);
+        let Named::Is(register) = named else {
+            return self.refused(Refusal::NoRegister(place));
+        };
+        if read_only(register) {
+            return self.refused(Refusal::ReadOnly(place));
+        }
+        if !register.fits(value) {
+            return self.refused(Refusal::StrayBits(place));
+        }
+        if self.no_room_for(register) {
+            return self.refused(Refusal::QueueFull(place));
+        }
+        let state = self.put(store, register, value);
+        Written {
+            state,
+            answer: Answer::Done,
+        }
+    }
+}
