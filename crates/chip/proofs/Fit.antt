@@ -3,21 +3,26 @@ use Prim.Native.Nat.{ℕ}
 use mathlib.Core.Path.{_≡_, refl, ap, sym, _∙_}
 use mathlib.Core.Bool.{Bool, true, false, false≢true, cond, not}
 use mathlib.Core.List.{List, [], _++_}
-use borrow.Author.Tests.{eqb-true}
+use borrow.Author.Tests.{eqb-true, eq-eqb}
 use lib.Dec.{eqb}
+use lib.ListN.{length}
 use Rattle.rules.specs.Rule.{Outcome, refused}
 use Rattle.rules.specs.Faults.{Numbered, Fault, unless}
 use Rattle.registers.specs.Store.{storeLength}
 use Rattle.chip.specs.Refusal.{numbered}
 use Rattle.chip.specs.State.{goodState}
-use Rattle.chip.specs.Call.{callFaults, fit}
+use Rattle.chip.specs.Call.{Chip, callFaults, fit}
 use Rattle.chip.specs.declared.refusal.Refusal.{Refusal}
 use Rattle.chip.specs.declared.refusal.Refusal.the-variants.{StoreLength, BadState}
 use Rattle.chip.specs.declared.state.State.{State}
 use Rattle.chip.specs.declared.state.Fit.{Fit}
 use Rattle.chip.specs.declared.state.Fit.the-variants.{Yes, Refused}
 
--- the call may go on
+-- a call may go on with this state and this store
+abbrev pub GoesOn : Chip → Type 0
+GoesOn chip = fit (chip .0) (length (chip .1)) ≡ Yes
+
+-- the test says so
 abbrev goesOn : Fit → Bool
 goesOn Yes = true
 goesOn (Refused refusal) = false
@@ -27,20 +32,25 @@ fit-parts true true e = (refl, refl)
 fit-parts true false e = absurd (false≢true (ap goesOn e))
 fit-parts false right e = absurd (false≢true (ap goesOn e))
 
-module _ (state : State) (length : ℕ) where
+module _ (state : State) (size : ℕ) where
   -- then the state keeps its rule, and the store has its length
-  pub fit-says : fit state length ≡ Yes → (goodState state ≡ true) × (length ≡ storeLength)
+  pub fit-says : fit state size ≡ Yes → (goodState state ≡ true) × (size ≡ storeLength)
   unfolding fit
-  fit-says e = let both = fit-parts (goodState state) (eqb length storeLength) e in (both .0, eqb-true _ _ (both .1))
+  fit-says e = let both = fit-parts (goodState state) (eqb size storeLength) e in (both .0, eqb-true _ _ (both .1))
+
+  -- and that is all that it asks
+  pub says-fit : goodState state ≡ true → size ≡ storeLength → fit state size ≡ Yes
+  unfolding fit
+  says-fit good right = simp (good, eq-eqb _ _ right)
 
   module _ {Memory Answer : Type 0} (others : List Fault) (before : Memory) (done : Memory × Answer) where
     by-fit : Fit → Memory × Outcome Numbered Answer
     by-fit Yes = unless others before done
     by-fit (Refused refusal) = (before, refused (numbered refusal))
 
-    fit-decides : unless (callFaults state length ++ others) before done ≡ by-fit (fit state length)
+    fit-decides : unless (callFaults state size ++ others) before done ≡ by-fit (fit state size)
     unfolding fit by-fit
-    fit-decides = by (goodState state) (eqb length storeLength)
+    fit-decides = by (goodState state) (eqb size storeLength)
       where
         by : (good right : Bool)
             → cond (not good) (before, refused (numbered BadState)) (cond (not right) (before, refused (numbered StoreLength)) (unless others before done))
@@ -50,11 +60,11 @@ module _ (state : State) (length : ℕ) where
         by false right = refl
 
     -- the first faults of a call that may go on decide nothing
-    pub fit-on : fit state length ≡ Yes → unless (callFaults state length ++ others) before done ≡ unless others before done
+    pub fit-on : fit state size ≡ Yes → unless (callFaults state size ++ others) before done ≡ unless others before done
     unfolding by-fit
     fit-on e = fit-decides ∙ ap by-fit e
 
     -- those of one that may not are its refusal
-    pub fit-off : (refusal : Refusal) → fit state length ≡ Refused refusal → unless (callFaults state length ++ others) before done ≡ (before, refused (numbered refusal))
+    pub fit-off : (refusal : Refusal) → fit state size ≡ Refused refusal → unless (callFaults state size ++ others) before done ≡ (before, refused (numbered refusal))
     unfolding by-fit
     fit-off refusal e = fit-decides ∙ ap by-fit e

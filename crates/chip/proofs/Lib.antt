@@ -5,4 +5,5 @@ pub mod Fit
 pub mod Runs
 pub mod Writes
 pub mod Readings
+pub mod Shown
 pub mod Unique

@@ -134,7 +134,7 @@ module _ (chip : Chip) where
     dots-unfit refusal e = fit-off (chip .0) (length (chip .1)) [] chip (afterDots count chip, lastReport count chip) refusal e
 
     -- neither
-    dots-done : fit (chip .0) (length (chip .1)) ≡ Yes → ran chip count ≡ (afterDots count chip, ok (lastReport count chip))
+    pub dots-done : fit (chip .0) (length (chip .1)) ≡ Yes → ran chip count ≡ (afterDots count chip, ok (lastReport count chip))
     unfolding ran
     dots-done fine = fit-on (chip .0) (length (chip .1)) [] chip (afterDots count chip, lastReport count chip) fine
 

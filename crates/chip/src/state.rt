@@ -17,7 +17,7 @@ pub struct State {
 }
 
 // Whether a call may go on.
-pub(crate) enum Fit {
+pub enum Fit {
     Yes,
     Refused(Refusal),
 }

@@ -1,0 +1,43 @@
+-- A run of dots is so many single dots. Assumes nothing.
+use Prim.Native.Nat.{ℕ, zero, suc}
+use mathlib.Core.Path.{_≡_, refl, ap, sym, _∙_}
+use lib.ListN.{length, replicate}
+use Rattle.chip.specs.Call.{Chip, fit}
+use Rattle.chip.specs.Dot.{afterDot}
+use Rattle.chip.specs.Dots.{afterDots}
+use Rattle.chip.specs.declared.refusal.Refusal.{Refusal}
+use Rattle.chip.specs.declared.state.Fit.{Fit}
+use Rattle.chip.specs.declared.state.Fit.the-variants.{Yes, Refused}
+use Rattle.history.specs.Calls.{dot, dots, after, end}
+use Rattle.chip.proofs.Good.{Whole, dot-length, dot-whole, dot-good}
+use Rattle.chip.proofs.Fit.{GoesOn, fit-says, says-fit}
+use Rattle.chip.proofs.Runs.{dot-unfit, dot-done, dots-unfit, dots-done}
+
+-- what a dot leaves goes on where the dot did
+pub dot-goes-on : (chip : Chip) → Whole (chip .0) → GoesOn chip → GoesOn (afterDot chip)
+dot-goes-on chip whole on =
+    let said = fit-says (chip .0) (length (chip .1)) on in
+    says-fit (afterDot chip .0) (length (afterDot chip .1)) (dot-good chip whole (said .0)) (dot-length chip ∙ said .1)
+
+-- single dots that go on
+dots-on : (count : ℕ) (chip : Chip) → Whole (chip .0) → GoesOn chip → end chip (replicate count dot) ≡ afterDots count chip
+unfolding after end afterDots
+dots-on zero chip whole on = refl
+dots-on (suc count) chip whole on =
+    ap (λ (left : Chip). end left (replicate count dot)) (ap (λ all. all .0) (dot-done chip on))
+    ∙ dots-on count (afterDot chip) (dot-whole chip whole) (dot-goes-on chip whole on)
+
+-- single dots that are refused
+dots-off : (count : ℕ) (chip : Chip) (refusal : Refusal) → fit (chip .0) (length (chip .1)) ≡ Refused refusal → end chip (replicate count dot) ≡ chip
+unfolding after end
+dots-off zero chip refusal off = refl
+dots-off (suc count) chip refusal off = ap (λ (left : Chip). end left (replicate count dot)) (ap (λ all. all .0) (dot-unfit chip refusal off)) ∙ dots-off count chip refusal off
+
+-- so many dots at once leave what so many single dots leave, refused or not
+pub dots-as-dots : (chip : Chip) (count : ℕ) → Whole (chip .0) → after chip (dots count) ≡ end chip (replicate count dot)
+unfolding after
+dots-as-dots chip count whole = by (fit (chip .0) (length (chip .1))) refl
+  where
+    by : (test : Fit) → fit (chip .0) (length (chip .1)) ≡ test → after chip (dots count) ≡ end chip (replicate count dot)
+    by Yes on = ap (λ all. all .0) (dots-done chip count on) ∙ sym (dots-on count chip whole on)
+    by (Refused refusal) off = ap (λ all. all .0) (dots-unfit chip count refusal off) ∙ sym (dots-off count chip refusal off)

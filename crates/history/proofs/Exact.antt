@@ -1,0 +1,45 @@
+-- The moment of a colour write: the one with k before it in the queue is applied at exactly the blanked dot that has k before it, so within 64. Assumes nothing.
+use Prim.Native.Nat.{ℕ, _-_, _≤_, _<_}
+use mathlib.Core.Path.{_≡_}
+use mathlib.Core.Bool.{true}
+use mathlib.Core.List.{List, [], _∷_}
+use native.Mathlib.Omega.{arith}
+use lib.ListN.{length, getD}
+use Rattle.queue.specs.Queue.{zeroSlot, waitingIn}
+use Rattle.chip.specs.State.{fresh, goodState}
+use Rattle.chip.specs.Call.{Chip}
+use Rattle.history.specs.Calls.{Call, end}
+use Rattle.history.specs.Ledger.{blanked}
+use Rattle.chip.proofs.Good.{Whole, fresh-whole, fresh-good}
+use Rattle.history.proofs.Calls.{stays-whole}
+use Rattle.history.proofs.Stays.{stays-good}
+use Rattle.history.proofs.Acts.{acts-waits, acts-exact}
+use Rattle.history.proofs.Ledger.{calls-act, few-wait, waiting-count}
+
+module _ (chip : Chip) (calls : List Call) (whole : Whole (chip .0)) (good : goodState (chip .0) ≡ true) (k : ℕ) (waits : k < chip .0 .queue .waiting) where
+  -- it stands in the list of those that wait
+  stands : k < length (waitingIn (chip .0 .queue))
+  unfolding end
+  stands = rw (waiting-count chip [] whole good) waits
+
+  -- until k blanked dots have come it waits, by as many places further on; the next blanked dot applies it and nothing else
+  pub exact-dot :
+      (length (blanked chip calls) ≤ k
+      → (getD (waitingIn (end chip calls .0 .queue)) (k - length (blanked chip calls)) zeroSlot ≡ getD (waitingIn (chip .0 .queue)) k zeroSlot)
+      × (k - length (blanked chip calls) < end chip calls .0 .queue .waiting))
+      × (k < length (blanked chip calls) → getD (blanked chip calls) k [] ≡ getD (waitingIn (chip .0 .queue)) k zeroSlot ∷ [])
+  exact-dot = (
+    λ few. let e = acts-waits (calls-act chip calls whole) k zeroSlot stands few in (e .0, rw (waiting-count chip calls whole good) at (e .1)),
+    acts-exact (calls-act chip calls whole) k zeroSlot stands,
+  )
+
+  -- so once 64 blanked dots have come it has been applied
+  pub within-64 : 64 ≤ length (blanked chip calls) → getD (blanked chip calls) k [] ≡ getD (waitingIn (chip .0 .queue)) k zeroSlot ∷ []
+  unfolding end
+  within-64 enough = exact-dot .1 (omega (arith, few-wait chip [] whole good))
+
+-- from a fresh state: whatever was called, what then waits is applied within the next 64 blanked dots
+pub fresh-within-64 : (store : List ℕ) (before calls : List Call) (k : ℕ) → let chip : Chip = end (fresh, store) before in
+    k < chip .0 .queue .waiting → 64 ≤ length (blanked chip calls) → getD (blanked chip calls) k [] ≡ getD (waitingIn (chip .0 .queue)) k zeroSlot ∷ []
+fresh-within-64 store before calls k waits =
+    within-64 (end (fresh, store) before) calls (stays-whole (fresh, store) before fresh-whole) (stays-good (fresh, store) before fresh-whole fresh-good) k waits

@@ -1,0 +1,9 @@
+pub mod Wrote
+pub mod Refused
+pub mod DotByDot
+pub mod Calls
+pub mod Stays
+pub mod Acts
+pub mod Ledger
+pub mod Exact
+pub mod Entries
