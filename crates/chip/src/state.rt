@@ -10,6 +10,7 @@ use timing::Position;
 use timing::Windows;
 
 // All that the chip holds besides the store.
+#[repr(C)]
 pub struct State {
     pub control: [u32; 9],
     pub at: Position,

@@ -1,11 +1,32 @@
--- No second answer meets a contract of this crate. Assumes nothing.
-use Rattle.rules.specs.Unique.{OneAnswer}
-use Rattle.rules.proofs.Unique.{by-equation}
-use Rattle.emulator.proofs.bulitampaw_entry_defined.Reads as entry-defined
-use Rattle.emulator.proofs.bulitampaw_signal_holds.Reads as signal-holds
+-- No second answer meets a contract of this crate, and none leaves another store. Assumes nothing.
+use denote.Ref.{now}
+use Rattle.rules.specs.Unique.{OneAnswer, OneOutcome}
+use Rattle.rules.proofs.Unique.{by-equation, by-pair}
+use Rattle.emulator.proofs.calls.bulitampaw_fresh.Reads as fresh
+use Rattle.emulator.proofs.calls.bulitampaw_write.Reads as write
+use Rattle.emulator.proofs.calls.bulitampaw_read.Reads as read
+use Rattle.emulator.proofs.calls.bulitampaw_dot.Reads as dot
+use Rattle.emulator.proofs.calls.bulitampaw_dots.Reads as dots
+use Rattle.emulator.proofs.questions.bulitampaw_entry_defined.Reads as entry-defined
+use Rattle.emulator.proofs.questions.bulitampaw_signal_holds.Reads as signal-holds
 
 pub entry-defined-unique : OneAnswer entry-defined.Post
 entry-defined-unique = by-equation _ _
 
 pub signal-holds-unique : OneAnswer signal-holds.Post
 signal-holds-unique = by-equation _ _
+
+pub fresh-unique : OneAnswer fresh.Post
+fresh-unique = by-equation _ _
+
+pub write-unique : OneOutcome (λ k exit. now (exit .1 .0)) write.Post
+write-unique = by-pair _ (λ k exit. now (exit .1 .0)) _
+
+pub read-unique : OneAnswer read.Post
+read-unique = by-equation _ _
+
+pub dot-unique : OneOutcome (λ k exit. now (exit .1 .0)) dot.Post
+dot-unique = by-pair _ (λ k exit. now (exit .1 .0)) _
+
+pub dots-unique : OneOutcome (λ k exit. now (exit .1 .0)) dots.Post
+dots-unique = by-pair _ (λ k exit. now (exit .1 .0)) _

@@ -6,12 +6,14 @@ ghost use Rattle.queue.specs.Queue.{empty, room, full, oldest, pushed, p
 ghost use Rattle.queue.specs.Good.{goodQueue};
 
 // A colour write that waits.
+#[repr(C)]
 pub struct Waiting {
     pub entry: u32,
     pub colour: u32,
 }
 
 // The writes that wait stand in the first `waiting` slots, the oldest in slot 0.
+#[repr(C)]
 pub struct Queue {
     pub waiting: u32,
     pub slots: [Waiting; 64],

@@ -12,6 +12,13 @@ module _ {K : Type 0} {Args Answer : K → Type 0} (Exit : K → Type 0) (is : (
       → OneAnswer {Exit = Exit} (λ k args answer exit. (answer ≡ is k args) × More k args answer exit)
   by-equation-and More k args answer other exit exit′ p q = p .0 ∙ sym (q .0)
 
+-- the answer and what lent memory holds at the end, as a pair
+pub by-pair : {K : Type 0} {Args Answer : K → Type 0} {Memory : Type 0} (Exit : K → Type 0) (left : (k : K) → Exit k → Memory)
+    (is : (k : K) → Args k → Answer k × Memory) → OneOutcome {Exit = Exit} left (λ k args answer exit. (answer, left k exit) ≡ is k args)
+by-pair {K} {Args} {Answer} {Memory} Exit left is k args answer other exit exit′ p q =
+    let e = p ∙ sym q in
+    (ap (λ (all : Answer k × Memory). all .0) e, ap (λ (all : Answer k × Memory). all .1) e)
+
 -- the state that an answer hands back and the lent memory, as a pair, and beside them what the answer says
 module _ {K : Type 0} {Args Answer : K → Type 0} {State Memory Said : Type 0} (state : (k : K) → Answer k → State) (said : (k : K) → Answer k → Said)
     (same : (k : K) (answer other : Answer k) → state k answer ≡ state k other → said k answer ≡ said k other → answer ≡ other) where

@@ -35,6 +35,7 @@ fn lesser(a: u32, b: u32) -> u32
 }
 
 // Where the beam is.
+#[repr(C)]
 pub struct Position {
     pub x: u32,
     pub y: u32,

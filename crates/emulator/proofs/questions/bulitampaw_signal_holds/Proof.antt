@@ -1,9 +1,9 @@
--- `emulator::bulitampaw_signal_holds` meets its contract: the window rule, as a number. Assumes nothing.
+-- `emulator::questions::bulitampaw_signal_holds` meets its contract: the window rule, as a number. Assumes nothing.
 use mathlib.Core.Path.{sym, ap, _∙_}
 use borrow.Author.Needs.{needs}
 use Rattle.emulator.specs.Answers.{number, signalHolds}
-use Rattle.emulator.proofs.bulitampaw_signal_holds.Statement.{statement}
-use Rattle.emulator.proofs.bulitampaw_signal_holds.Tie as tie
+use Rattle.emulator.proofs.questions.bulitampaw_signal_holds.Statement.{statement}
+use Rattle.emulator.proofs.questions.bulitampaw_signal_holds.Tie as tie
 
 in-window-requires : tie.Need-in-window-requires
 in-window-requires c κs = search needs
