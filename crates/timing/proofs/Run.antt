@@ -1,13 +1,13 @@
 -- Clear runs: from a clear position on, the rest of its line is clear up to where horizontal blank comes on. Assumes nothing.
 use Prim.Native.Nat.{ℕ, zero, suc, _+_, _≤_, _<_}
-use mathlib.Core.Path.{_≡_, refl}
-use mathlib.Core.Bool.{Bool, true, false, true≢false, _||_}
+use mathlib.Core.Path.{_≡_, refl, sym}
+use mathlib.Core.Bool.{Bool, true, false, true≢false, _&&_, _||_}
 use native.Mathlib.Decide.{decLt}
 use native.Mathlib.Omega.{arith}
-use borrow.Author.Tests.{ltb-false, lt-ltb, le-ltb, le-leb, lt-leb}
+use borrow.Author.Tests.{eqb-true, ltb-false, lt-ltb, le-ltb, le-leb, lt-leb}
 use Rattle.words.specs.Field.{field}
 use Rattle.timing.specs.Window.{inWindow}
-use Rattle.timing.specs.Signals.{holds, signalsAt}
+use Rattle.timing.specs.Signals.{holds, isEmpty, signalsAt}
 use Rattle.timing.specs.Move.{positionAfter}
 use Rattle.timing.specs.declared.Position.{Position}
 use Rattle.timing.specs.declared.Windows.{Windows}
@@ -68,3 +68,21 @@ module _ (ws : Windows) (at : Position) (word : ℕ) (clear : signalsAt ws at .b
         window-clear (field (ws .hblank) 11 0) (field (ws .hblank) 27 16) (at .x) (at .x + i) (omega arith) (λ b. omega (arith, before b)) (dark .0),
       )
       (dark .1)
+
+-- an empty window holds nowhere
+empty-holds : (word p : ℕ) → isEmpty word ≡ true → holds word p ≡ false
+unfolding isEmpty holds inWindow
+empty-holds word p empty =
+    let e = eqb-true (field word 11 0) (field word 27 16) empty in
+    rw (le-ltb (field word 11 0) (field word 27 16) (omega (arith, e)), le-ltb (field word 27 16) (field word 11 0) (omega (arith, e)))
+
+-- where both windows are empty, no position is blanked
+pub run-for-ever : (ws : Windows) → (isEmpty (ws .hblank) && isEmpty (ws .vblank)) ≡ true → (at : Position) → signalsAt ws at .blank ≡ false
+unfolding signalsAt
+run-for-ever ws empty at =
+    let e = both-hold (isEmpty (ws .hblank)) (isEmpty (ws .vblank)) empty in
+    rw (empty-holds (ws .hblank) (at .x) (e .0)) (empty-holds (ws .vblank) (at .y) (e .1))
+  where
+    both-hold : (a b : Bool) → (a && b) ≡ true → (a ≡ true) × (b ≡ true)
+    both-hold true b e = (refl, e)
+    both-hold false b e = absurd (true≢false (sym e))

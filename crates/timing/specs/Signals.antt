@@ -1,6 +1,7 @@
 -- The signals of a position: horizontal and vertical sync, and blank.
 use Prim.Native.Nat.{ℕ}
 use mathlib.Core.Bool.{Bool, _||_}
+use lib.Dec.{eqb}
 use Rattle.words.specs.Field.{field}
 use Rattle.timing.specs.Window.{inWindow}
 use Rattle.timing.specs.declared.Position.{Position}
@@ -10,6 +11,10 @@ use Rattle.timing.specs.declared.Signals.{Signals}
 -- whether p is in the window of a control word, which has on in 11..0 and off in 27..16
 unfoldable pub holds : ℕ → ℕ → Bool
 holds word p = inWindow (field word 11 0) (field word 27 16) p
+
+-- the window of a control word is empty: on and off are equal
+unfoldable pub isEmpty : ℕ → Bool
+isEmpty word = eqb (field word 11 0) (field word 27 16)
 
 -- horizontal windows go by x and vertical ones by y; blank is either
 unfoldable pub signalsAt : Windows → Position → Signals

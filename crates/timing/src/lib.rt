@@ -1,9 +1,9 @@
 // Timing: the circular window, the signals of a position, its moves, and the walk to the next blanked one.
 ghost use mathlib.Core.Path.{_≡_};
-ghost use mathlib.Core.Bool.{false};
+ghost use mathlib.Core.Bool.{false, _&&_};
 ghost use Prim.Native.Nat.{ℕ, _<_, min};
 ghost use Rattle.timing.specs.Window.{inWindow};
-ghost use Rattle.timing.specs.Signals.{holds, signalsAt};
+ghost use Rattle.timing.specs.Signals.{holds, isEmpty, signalsAt};
 ghost use Rattle.timing.specs.Move.{nextPosition, positionAfter};
 ghost use Rattle.timing.specs.Walk.{walked};
 
@@ -32,6 +32,13 @@ fn lesser(a: u32, b: u32) -> u32
     ensures { λ r. ⌜ r ≡ min a b ⌝ }
 {
     if a < b { a } else { b }
+}
+
+// Whether the window of a control word is empty.
+fn is_empty(word: u32) -> bool
+    ensures { λ r. ⌜ r ≡ isEmpty word ⌝ }
+{
+    words::field(word, 11, 0) == words::field(word, 27, 16)
 }
 
 // Where the beam is.
@@ -128,10 +135,24 @@ impl Windows {
         }
     }
 
-    // How many positions of a line are clear, from a clear one on, up to where horizontal blank may come on: at least 1.
+    // Whether no position is blanked, since both windows are empty.
+    fn never_blank(self) -> bool
+        ensures { λ r. ⌜ r ≡ (isEmpty (self .hblank) && isEmpty (self .vblank)) ⌝ }
+    {
+        if !is_empty(self.hblank) {
+            return false;
+        }
+        is_empty(self.vblank)
+    }
+
+    // For how many moves the positions are clear, from a clear one on: for ever where none is blanked, else on its line up to where horizontal
+    // blank may come on, and at least 1.
     fn clear_run(self, at: Position, total: u32) -> u32
         ensures { λ r. ⌜ (0 < r) × (signalsAt self at .blank ≡ false → (i : ℕ) → i < r → signalsAt self (positionAfter at i total) .blank ≡ false) ⌝ }
     {
+        if self.never_blank() {
+            return 0xFFFFFFFF;
+        }
         let last = words::field(total, 11, 0);
         let on = words::field(self.hblank, 11, 0);
         if last <= at.x {

@@ -20,14 +20,14 @@ abbrev μ-loop : tie.MeasureT-loop
 
 returns : tie.Need-returns Inv-loop μ-loop
 unfolding goodQueue
-returns c = simp (lt-leb _ _ (c .if1 .taken))
+returns c = simp (lt-leb (c .before .args .t1 .waiting) 64 (omega arith))
 
 cast-waiting : tie.Need-cast-waiting Inv-loop μ-loop
 cast-waiting c = search needs
 
 loop-holds : tie.Need-loop-holds Inv-loop μ-loop
 unfolding goodQueue
-loop-holds c = (omega arith, refl, c .if1 .left, simp (le-leb _ _ (c .if1 .left)))
+loop-holds c = (omega arith, refl, omega arith, simp (le-leb (c .before .args .t1 .waiting) 64 (omega arith)))
 
 mul-write : tie.Need-mul-write Inv-loop μ-loop
 mul-write c = search needs

@@ -31,7 +31,7 @@ mul-write : tie.Need-mul-write
 mul-write c = search needs
 
 element-set-from-write : tie.Need-element-set-from-write
-element-set-from-write c = more c
+element-set-from-write c = omega (arith, more c)
 
 add-self : tie.Need-add-self
 add-self c = omega (arith, more c)
