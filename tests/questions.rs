@@ -1,6 +1,9 @@
 //! The two questions, asked of the proved library and of the plain model.
 
 mod model;
+mod numbers;
+
+use numbers::Numbers;
 
 #[link(name = "emulator", kind = "static")]
 extern "C" {
@@ -18,18 +21,6 @@ fn signal_holds(on: u32, off: u32, p: u32) -> u32 {
     unsafe { bulitampaw_signal_holds(on, off, p) }
 }
 
-/// Numbers that look random, from a seed.
-struct Numbers(u64);
-
-impl Numbers {
-    fn next(&mut self) -> u32 {
-        self.0 ^= self.0 << 13;
-        self.0 ^= self.0 >> 7;
-        self.0 ^= self.0 << 17;
-        (self.0 >> 32) as u32
-    }
-}
-
 fn compare_entry(entry: u32, depth: u32) {
     let wanted = u32::from(model::colour::defined(entry, depth));
     assert_eq!(entry_defined(entry, depth), wanted, "entry {entry:#x} at depth {depth}");
@@ -43,7 +34,7 @@ fn compare_signal(on: u32, off: u32, p: u32) {
 fn main() {
     let seed = std::env::args().nth(1).map_or(20_010_417, |word| word.parse().expect("a seed is a number"));
     println!("questions from Rust: seed {seed}");
-    let mut numbers = Numbers(seed | 1);
+    let mut numbers = Numbers::new(seed);
     for entry in 0..8192 {
         for depth in 0..=64 {
             compare_entry(entry, depth);

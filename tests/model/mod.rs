@@ -1,4 +1,12 @@
 //! A plain model of the chip, written from the paper alone, that the proved library is compared with.
 
+// Each test uses a part of it.
+#![allow(dead_code)]
+
+pub mod beam;
+pub mod chip;
 pub mod colour;
+pub mod frames;
+pub mod queue;
+pub mod registers;
 pub mod timing;

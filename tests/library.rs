@@ -1,0 +1,70 @@
+//! The chip of the proved library, called as C calls it.
+
+use crate::model::chip::State;
+
+/// What a write answers.
+#[repr(C)]
+#[derive(Clone, Copy)]
+pub struct Written {
+    pub state: State,
+    pub number: u32,
+    pub place: u32,
+}
+
+/// What a read answers.
+#[repr(C)]
+#[derive(Clone, Copy)]
+pub struct ReadBack {
+    pub state: State,
+    pub number: u32,
+    pub place: u32,
+    pub word: u32,
+}
+
+/// What one dot or a run of dots answers.
+#[repr(C)]
+#[derive(Clone, Copy)]
+pub struct Dotted {
+    pub state: State,
+    pub number: u32,
+    pub place: u32,
+    pub reported: u32,
+    pub hsync: u32,
+    pub vsync: u32,
+    pub blank: u32,
+}
+
+#[link(name = "emulator", kind = "static")]
+extern "C" {
+    fn bulitampaw_fresh() -> State;
+    fn bulitampaw_write(state: State, store: *mut u32, length: usize, address: u32, value: u32) -> Written;
+    fn bulitampaw_read(state: State, store: *const u32, length: usize, address: u32) -> ReadBack;
+    fn bulitampaw_dot(state: State, store: *mut u32, length: usize) -> Dotted;
+    fn bulitampaw_dots(state: State, store: *mut u32, length: usize, count: u32) -> Dotted;
+}
+
+pub fn fresh() -> State {
+    // SAFETY: nothing in, a value out.
+    unsafe { bulitampaw_fresh() }
+}
+
+pub fn write(state: State, store: &mut [u32], address: u32, value: u32) -> Written {
+    // SAFETY: the store is lent for the call with its own length, all else goes by value.
+    unsafe { bulitampaw_write(state, store.as_mut_ptr(), store.len(), address, value) }
+}
+
+/// The store is borrowed as one that may change, so that the caller may look whether it did.
+pub fn read(state: State, store: &mut [u32], address: u32) -> ReadBack {
+    // SAFETY: as above.
+    unsafe { bulitampaw_read(state, store.as_mut_ptr(), store.len(), address) }
+}
+
+pub fn dot(state: State, store: &mut [u32]) -> Dotted {
+    // SAFETY: as above.
+    unsafe { bulitampaw_dot(state, store.as_mut_ptr(), store.len()) }
+}
+
+pub fn dots(state: State, store: &mut [u32], count: u32) -> Dotted {
+    // SAFETY: as above.
+    unsafe { bulitampaw_dots(state, store.as_mut_ptr(), store.len(), count) }
+}
