@@ -46,7 +46,7 @@ fn shown(number: f64) -> String {
     }
 }
 
-fn rows() -> [Row; 10] {
+fn rows() -> [Row; 12] {
     let fresh = library::fresh();
     let timed = at_1280x1024(fresh);
     [
@@ -62,6 +62,20 @@ fn rows() -> [Row; 10] {
         Row::new(
             "a dot of a run, 64 waiting and never blanked, total 1x1",
             with_full_queue(fresh),
+            RUN,
+            run::<Library>,
+            run::<Model>,
+        ),
+        Row::new(
+            "a dot of a run, 64 waiting, blank windows past 1280x1024",
+            blanked_past_the_total(with_full_queue(timed)),
+            RUN,
+            run::<Library>,
+            run::<Model>,
+        ),
+        Row::new(
+            "a dot of a run, 64 waiting, blank windows past total 1x1",
+            blanked_past_the_total(with_full_queue(fresh)),
             RUN,
             run::<Library>,
             run::<Model>,
@@ -249,6 +263,12 @@ fn at_1280x1024(mut state: State) -> State {
 
 fn never_blanked(mut state: State) -> State {
     state.control[4..6].fill(0);
+    state
+}
+
+/// Both blank windows hold somewhere, but nowhere that the beam comes to.
+fn blanked_past_the_total(mut state: State) -> State {
+    state.control[4..6].fill(fields(2000, 2001));
     state
 }
 

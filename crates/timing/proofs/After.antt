@@ -1,5 +1,5 @@
 -- So many moves at once: the position in closed form, its bounds, and moves after moves. Assumes nothing.
-use Prim.Native.Nat.{ℕ, zero, suc, min, _+_, _/_, _%_, _^_, _≤_, _<_}
+use Prim.Native.Nat.{ℕ, zero, suc, min, _+_, _-_, _/_, _%_, _^_, _≤_, _<_}
 use mathlib.Core.Path.{_≡_, refl, sym, ap, _∙_}
 use native.Mathlib.Decide.{decLt}
 use native.Mathlib.Nat.{zero-add, suc-add, mod-eq-of-lt, mod-self, add-mod-right, add-div-right, div-eq-of-lt}
@@ -135,3 +135,19 @@ unfolding positionAfter
 after-line at zero word h = ap (λ (x : ℕ). record { x = x; y = at .y }) (omega arith)
 after-line at (suc count) word h =
     rw (move-along at word (omega arith)) (after-line (record { x = at .x + 1; y = at .y }) count word (omega arith) ∙ ap (λ (x : ℕ). record { x = x; y = at .y }) (omega arith))
+
+-- after a run of which only the last move may leave the line, the position is the next one of the last on the line
+pub after-run : (at : Position) (run word : ℕ) → 0 < run → min (at .x) (field word 11 0) + run ≤ field word 11 0 + 1
+    → positionAfter at run word ≡ nextPosition (record { x = at .x + (run - 1); y = at .y }) word
+unfolding positionAfter
+after-run at run word some fits =
+    let e : run ≡ suc (run - 1) = omega arith in
+    ap (λ (count : ℕ). positionAfter at count word) e
+    ∙ after-next at (run - 1) word
+    ∙ ap (λ (last : Position). nextPosition last word)
+    (elim (decLt 1 run) [
+      | yes more ↦ after-line at (run - 1) word (omega arith)
+      | no one ↦
+          let none : run - 1 ≡ 0 = omega arith in
+          rw none (ap (λ (x : ℕ). record { x = x; y = at .y }) (omega arith))
+    ])

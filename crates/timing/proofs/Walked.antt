@@ -40,6 +40,13 @@ walk-skip ws at word (suc run) rest clear =
     rw (suc-add run rest)
     (walk-on ws at word (run + rest) (clear 0 (omega arith)) ∙ walk-skip ws (nextPosition at word) word run rest (λ i h. clear (suc i) (omega arith)))
 
+-- where no position is blanked, the walk makes all its moves
+pub walk-clear-all : (ws : Windows) (at : Position) (word most : ℕ) → ((p : Position) → signalsAt ws p .blank ≡ false)
+    → walked ws at word most ≡ record { at = positionAfter at most word; left = 0 }
+unfolding walked positionAfter
+walk-clear-all ws at word zero clear = refl
+walk-clear-all ws at word (suc most) clear = walk-on ws at word most (clear at) ∙ walk-clear-all ws (nextPosition at word) word most clear
+
 -- what every move from a clear position keeps, of the moves left and the position, holds where the walk ends
 pub walk-keeps {ℓ} : (ws : Windows) (at : Position) (word most : ℕ) (Kept : ℕ → Position → Type ℓ)
     → ((n : ℕ) (p : Position) → signalsAt ws p .blank ≡ false → Kept (suc n) p → Kept n (nextPosition p word))

@@ -1,7 +1,8 @@
 // Timing: the circular window, the signals of a position, its moves, and the walk to the next blanked one.
 ghost use mathlib.Core.Path.{_≡_};
 ghost use mathlib.Core.Bool.{false, _&&_};
-ghost use Prim.Native.Nat.{ℕ, _<_, min};
+ghost use Prim.Native.Nat.{ℕ, _+_, _≤_, _<_, min};
+ghost use Rattle.words.specs.Field.{field};
 ghost use Rattle.timing.specs.Window.{inWindow};
 ghost use Rattle.timing.specs.Signals.{holds, isEmpty, signalsAt};
 ghost use Rattle.timing.specs.Move.{nextPosition, positionAfter};
@@ -68,6 +69,18 @@ impl Position {
             };
         }
         Self { x: 0, y: 0 }
+    }
+
+    // The position after a run of moves of which only the last may leave the line.
+    fn along(self, run: u32, total: u32) -> Self
+        requires { ⌜ (0 < run) × (min (self .x) (field total 11 0) + run ≤ field total 11 0 + 1) ⌝ }
+        ensures { λ r. ⌜ r ≡ positionAfter self run total ⌝ }
+    {
+        let last = Self {
+            x: self.x + (run - 1),
+            y: self.y,
+        };
+        last.next(total)
     }
 
     // The position after so many moves, under control word 1: in closed form.
@@ -145,14 +158,10 @@ impl Windows {
         is_empty(self.vblank)
     }
 
-    // For how many moves the positions are clear, from a clear one on: for ever where none is blanked, else on its line up to where horizontal
-    // blank may come on, and at least 1.
+    // How many positions of a line are clear, from a clear one on, up to where horizontal blank may come on: at least 1.
     fn clear_run(self, at: Position, total: u32) -> u32
-        ensures { λ r. ⌜ (0 < r) × (signalsAt self at .blank ≡ false → (i : ℕ) → i < r → signalsAt self (positionAfter at i total) .blank ≡ false) ⌝ }
+        ensures { λ r. ⌜ (0 < r) × (min (at .x) (field total 11 0) + r ≤ field total 11 0 + 1) × (signalsAt self at .blank ≡ false → (i : ℕ) → i < r → signalsAt self (positionAfter at i total) .blank ≡ false) ⌝ }
     {
-        if self.never_blank() {
-            return 0xFFFFFFFF;
-        }
         let last = words::field(total, 11, 0);
         let on = words::field(self.hblank, 11, 0);
         if last <= at.x {
@@ -168,6 +177,12 @@ impl Windows {
     pub fn to_blank(self, from: Position, total: u32, most: u32) -> Walk
         ensures { λ r. ⌜ r ≡ walked self from total most ⌝ }
     {
+        if self.never_blank() {
+            return Walk {
+                at: from.after(most, total),
+                left: 0,
+            };
+        }
         let mut at = from;
         let mut left = most;
         while left != 0 {
@@ -176,7 +191,7 @@ impl Windows {
                 return Walk { at, left };
             }
             let run = lesser(self.clear_run(at, total), left);
-            at = at.after(run, total);
+            at = at.along(run, total);
             left -= run;
         }
         Walk { at, left }
