@@ -43,7 +43,7 @@ dotted-whole chip whole = by (fit (chip .0) (length (chip .1))) refl
 pub call-whole : (chip : Chip) (call : Call) → Whole (chip .0) → Whole (after chip call .0)
 unfolding after
 call-whole chip (write address value) whole = write-whole chip address value whole (wrote chip address value)
-call-whole chip (read address) whole = rw (read-same chip address) whole
+call-whole chip (read address) whole = subst (λ (left : Chip). Whole (left .0)) (sym (read-same chip address)) whole
 call-whole chip dot whole = dotted-whole chip whole
 call-whole chip (dots count) whole = by (fit (chip .0) (length (chip .1))) refl
   where
@@ -100,7 +100,7 @@ module _ (Holds : Chip → List (List Waiting) → List Waiting → Chip → Typ
   law-call : (chip : Chip) (call : Call) → Whole (chip .0) → Holds chip (blanks chip call) (accepts chip call) (after chip call)
   unfolding after end accepts blanks
   law-call chip (write address value) whole = law-write chip address value whole (wrote chip address value)
-  law-call chip (read address) whole = rw (read-same chip address) (law .none chip)
+  law-call chip (read address) whole = subst (Holds chip [] []) (sym (read-same chip address)) (law .none chip)
   law-call chip dot whole = law-dots 1 chip whole
   law-call chip (dots count) whole = rw (dots-as-dots chip count whole) (law-dots count chip whole)
   law-call chip line whole = law .none chip

@@ -1,6 +1,6 @@
 -- A call is refused exactly by the first of its faults that holds, and a refused call leaves all as it was. Assumes nothing.
 use mathlib.Core.Path.{_≡_, refl, ap, sym, _∙_}
-use mathlib.Core.Bool.{Bool, true, false, true≢false, cond}
+use mathlib.Core.Bool.{Bool, true, false, true≢false}
 use mathlib.Core.List.{List, [], _∷_, _++_}
 use Rattle.rules.specs.Rule.{Outcome, ok, refused}
 use Rattle.rules.specs.Faults.{Numbered, Fault, Clear, First, unless}
@@ -16,30 +16,33 @@ answered (ok answer) = true
 answered (refused refusal) = false
 
 module _ {Memory Answer : Type 0} (before : Memory) (done : Memory × Answer) where
+  -- what the first of some faults decides goes by its test
+  by-test : (fault : Fault) (faults : List Fault) {test : Bool} → fault .holds ≡ test
+      → unless (fault ∷ faults) before done ≡ unless (record { holds = test; refusal = fault .refusal } ∷ faults) before done
+  by-test fault faults h = ap (λ test. unless (record { holds = test; refusal = fault .refusal } ∷ faults) before done) h
+
   -- faults that are clear decide nothing
   pub past-clear : (passed others : List Fault) → Clear passed → unless (passed ++ others) before done ≡ unless others before done
   past-clear [] others clear = refl
-  past-clear (fault ∷ passed) others clear =
-      ap (λ test. cond test (before, refused (fault .refusal)) (unless (passed ++ others) before done)) (clear .0) ∙ past-clear passed others (clear .1)
+  past-clear (fault ∷ passed) others clear = by-test fault (passed ++ others) (clear .0) ∙ past-clear passed others (clear .1)
 
   -- where none holds, the call does what it does
   pub none-holds : (faults : List Fault) → Clear faults → unless faults before done ≡ (done .0, ok (done .1))
   none-holds [] clear = refl
-  none-holds (fault ∷ faults) clear =
-      ap (λ test. cond test (before, refused (fault .refusal)) (unless faults before done)) (clear .0) ∙ none-holds faults (clear .1)
+  none-holds (fault ∷ faults) clear = by-test fault faults (clear .0) ∙ none-holds faults (clear .1)
 
   -- the first that holds is the refusal, and all is left as it was
   pub first-holds : (faults : List Fault) (refusal : Numbered) → First faults refusal → unless faults before done ≡ (before, refused refusal)
   first-holds faults refusal f =
       ap (λ all. unless all before done) (f .order)
       ∙ past-clear (f .passed) (f .found ∷ f .later) (f .clear)
-      ∙ ap (λ test. cond test (before, refused (f .found .refusal)) (unless (f .later) before done)) (f .holds)
+      ∙ by-test (f .found) (f .later) (f .holds)
       ∙ ap (λ (r : Numbered). (before, refused r)) (f .is)
 
-  -- what the first of some faults makes of the answer
+  -- what the first of some faults makes of the answer goes by its test
   outcome-of : (fault : Fault) (faults : List Fault) {test : Bool} → fault .holds ≡ test
-      → unless (fault ∷ faults) before done .1 ≡ cond test (before, refused (fault .refusal)) (unless faults before done) .1
-  outcome-of fault faults h = ap (λ test. cond test (before, refused (fault .refusal)) (unless faults before done) .1) h
+      → unless (fault ∷ faults) before done .1 ≡ unless (record { holds = test; refusal = fault .refusal } ∷ faults) before done .1
+  outcome-of fault faults h = ap (λ (all : Memory × Outcome Numbered Answer). all .1) (by-test fault faults h)
 
   -- and there is no other reason: a refusal is that of the first that holds
   pub refused-first : (faults : List Fault) (refusal : Numbered) → unless faults before done .1 ≡ refused refusal → First faults refusal
