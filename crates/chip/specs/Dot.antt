@@ -1,7 +1,6 @@
 -- One dot: it reports the signals at the position; then, if blanked and the queue isn't empty, the oldest colour write is applied; then it moves.
 use Prim.Native.Nat.{ℕ}
 use mathlib.Core.Bool.{Bool, cond, _&&_}
-use mathlib.Core.List.{List}
 use lib.Dec.{ltb}
 use lib.ListN.{length, set}
 use Rattle.rules.specs.Rule.{Outcome, ok, refused}
@@ -11,7 +10,6 @@ use Rattle.timing.specs.Move.{nextPosition}
 use Rattle.timing.specs.declared.Signals.{Signals}
 use Rattle.registers.specs.Store.{storeIndex}
 use Rattle.registers.specs.declared.Block.the-variants.{ColourMap}
-use Rattle.registers.specs.declared.Register.{Register}
 use Rattle.queue.specs.Queue.{oldest, popped}
 use Rattle.queue.specs.declared.Waiting.{Waiting}
 use Rattle.chip.specs.Refusal.{numbered}

@@ -8,7 +8,6 @@ use Rattle.timing.specs.declared.Position.{Position}
 use Rattle.timing.specs.declared.Windows.{Windows}
 use Rattle.registers.specs.Kept.{fits}
 use Rattle.registers.specs.declared.Block.the-variants.{Control}
-use Rattle.registers.specs.declared.Register.{Register}
 use Rattle.queue.specs.Queue.{empty}
 use Rattle.queue.specs.Good.{goodQueue}
 use Rattle.queue.specs.declared.Queue.{Queue}

@@ -1,16 +1,15 @@
 -- The queue's part of the state's rule: the loop that tests it, what it says, and that calls keep it. Assumes nothing.
-use Prim.Native.Nat.{ℕ, zero, suc, _+_, _-_, _^_, _≤_, _<_}
+use Prim.Native.Nat.{ℕ, _+_, _-_, _^_, _≤_, _<_}
 use mathlib.Core.Path.{_≡_, refl, ap, sym, _∙_}
 use mathlib.Core.Bool.{Bool, true, false, false≢true, _&&_}
 use mathlib.Core.List.{List, [], _∷_, _++_}
 use native.Mathlib.Numerals.{add-one}
 use native.Mathlib.Omega.{arith}
 use borrow.Author.Tests.{ltb-true, leb-true, lt-ltb, le-leb}
-use lib.ListN.{length, getD, take, drop, length-take, drop-of-length-le}
+use lib.ListN.{length, getD, drop, length-take, drop-of-length-le}
 use lib.Seq.{drop-cons, getD-take}
-use lib.Dec.{ltb, leb}
 use Rattle.queue.specs.Waiting.{goodWrite}
-use Rattle.queue.specs.Queue.{zeroSlot, waitingIn, oldest, pushed, popped}
+use Rattle.queue.specs.Queue.{waitingIn, oldest, pushed, popped}
 use Rattle.queue.specs.Good.{allGood, goodQueue}
 use Rattle.queue.specs.declared.Waiting.{Waiting}
 use Rattle.queue.specs.declared.Queue.{Queue}

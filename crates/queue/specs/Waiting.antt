@@ -1,7 +1,6 @@
 -- When a colour write may wait.
 use Prim.Native.Nat.{_^_}
 use mathlib.Core.Bool.{Bool, _&&_}
-use mathlib.Core.List.{List, [], _∷_}
 use lib.Dec.{ltb}
 use Rattle.queue.specs.declared.Waiting.{Waiting}
 

@@ -1,11 +1,8 @@
 -- Big-endian numbers, one in front of another. Assumes nothing.
-use Prim.Native.Nat.{ℕ, zero, suc, _+_, _*_, _^_, _<_}
+use Prim.Native.Nat.{ℕ, zero, suc, _+_, _*_, _^_}
 use mathlib.Core.Path.{_≡_}
 use mathlib.Core.List.{List}
 use native.Mathlib.Nat.{add-zero, mul-one, add-suc, add-assoc, mul-assoc, add-mul, pow-suc}
-use lib.Arith.{digits-lt}
-use lib.Dec.{lit<}
-use lib.ListN.{getD}
 use Rattle.words.specs.Bytes.{bigEndian}
 
 -- the bytes of one number, and then those of another

@@ -1,6 +1,5 @@
 -- `timing::Position::along` meets its contract: the last position of the line, and one move. Assumes nothing.
 use mathlib.Core.Path.{sym, _∙_}
-use native.Mathlib.Omega.{arith}
 use borrow.Author.Needs.{needs}
 use Rattle.timing.proofs.After.{after-run}
 use Rattle.timing.proofs.Position.along.Statement.{statement}

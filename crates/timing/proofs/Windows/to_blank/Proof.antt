@@ -4,7 +4,6 @@ use mathlib.Core.Path.{_≡_, refl, sym, _∙_}
 use native.Mathlib.Omega.{arith}
 use borrow.Author.Needs.{needs}
 use Rattle.timing.specs.Walk.{walked}
-use Rattle.timing.specs.Move.{positionAfter}
 use Rattle.timing.proofs.Run.{run-for-ever}
 use Rattle.timing.proofs.Walked.{walk-out, walk-here, walk-skip, walk-clear-all}
 use Rattle.timing.proofs.Windows.to_blank.Statement.{statement}

@@ -1,5 +1,5 @@
 -- `chip::state::State::dots` meets its contract: 11, then 5, else all dots but the last, and then the last. Assumes nothing.
-use mathlib.Core.Path.{ap, sym, _∙_, _≡_}
+use mathlib.Core.Path.{ap, sym, _∙_}
 use borrow.Author.Needs.{needs}
 use Rattle.rules.specs.Rule.{ok}
 use Rattle.timing.specs.declared.Signals.{Signals}

@@ -4,7 +4,6 @@ use mathlib.Core.Path.{ap, sym, _∙_}
 use borrow.Author.Needs.{needs}
 use Rattle.rules.specs.Rule.{ok, refused}
 use Rattle.registers.proofs.Naming.{named-word}
-use Rattle.chip.specs.Call.{Chip}
 use Rattle.chip.specs.Refusal.{numbered}
 use Rattle.chip.specs.declared.refusal.Refusal.the-variants.{NoRegister}
 use Rattle.chip.proofs.Fit.{fit-says}
