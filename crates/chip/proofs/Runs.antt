@@ -1,14 +1,15 @@
 -- Runs of dots that only move the position, and what is left of a run. Assumes nothing.
 use Prim.Native.Nat.{ℕ, zero, suc, _+_, _-_, _<_}
 use mathlib.Core.Path.{_≡_, refl, ap, sym, _∙_}
-use mathlib.Core.Bool.{Bool, true, false, _&&_}
+use mathlib.Core.Bool.{Bool, true, false, cond, _&&_}
 use mathlib.Core.List.{List, []}
 use native.Mathlib.Omega.{arith}
 use borrow.Author.Tests.{ltb-true, le-ltb}
 use lib.Dec.{ltb}
 use lib.ListN.{length, set}
 use Rattle.rules.specs.Rule.{ok, refused}
-use Rattle.timing.specs.Move.{positionAfter}
+use Rattle.timing.specs.Signals.{signalsAt}
+use Rattle.timing.specs.Move.{nextPosition, positionAfter}
 use Rattle.timing.specs.Walk.{walked}
 use Rattle.timing.specs.declared.Position.{Position}
 use Rattle.timing.specs.declared.Walk.{Walk}
@@ -33,12 +34,12 @@ module _ (state : State) (store : List ℕ) where
   pub draining-dot : drains state ≡ true
       → afterDot (state, store) ≡ (moved (withQueue state (popped (state .queue))), set store (target (oldest (state .queue))) (oldest (state .queue) .colour))
   unfolding afterDot
-  draining-dot draining = simp draining
+  draining-dot draining = simp draining refl
 
   -- a dot that applies nothing only moves
   pub idle-dot : drains state ≡ false → afterDot (state, store) ≡ (moved state, store)
   unfolding afterDot
-  idle-dot idle = simp idle
+  idle-dot idle = simp idle refl
 
   -- where nothing waits, nothing is applied
   none-waits : state .queue .waiting ≡ 0 → drains state ≡ false
@@ -119,23 +120,23 @@ module _ (chip : Chip) where
   -- 11 and 5
   pub dot-unfit : (refusal : Refusal) → fit (chip .0) (length (chip .1)) ≡ Refused refusal → dotted chip ≡ (chip, refused (numbered refusal))
   unfolding dotted
-  dot-unfit refusal e = fit-off (chip .0) (length (chip .1)) [] chip (afterDot chip, signalsOf (chip .0)) refusal e
+  dot-unfit refusal e = fit-off (chip .0) (length (chip .1)) [] chip _ refusal e
 
   -- neither
   pub dot-done : fit (chip .0) (length (chip .1)) ≡ Yes → dotted chip ≡ (afterDot chip, ok (signalsOf (chip .0)))
   unfolding dotted
-  dot-done fine = fit-on (chip .0) (length (chip .1)) [] chip (afterDot chip, signalsOf (chip .0)) fine
+  dot-done fine = fit-on (chip .0) (length (chip .1)) [] chip _ fine
 
   module _ (count : ℕ) where
     -- 11 and 5
     pub dots-unfit : (refusal : Refusal) → fit (chip .0) (length (chip .1)) ≡ Refused refusal → ran chip count ≡ (chip, refused (numbered refusal))
     unfolding ran
-    dots-unfit refusal e = fit-off (chip .0) (length (chip .1)) [] chip (afterDots count chip, lastReport count chip) refusal e
+    dots-unfit refusal e = fit-off (chip .0) (length (chip .1)) [] chip _ refusal e
 
     -- neither
     pub dots-done : fit (chip .0) (length (chip .1)) ≡ Yes → ran chip count ≡ (afterDots count chip, ok (lastReport count chip))
     unfolding ran
-    dots-done fine = fit-on (chip .0) (length (chip .1)) [] chip (afterDots count chip, lastReport count chip) fine
+    dots-done fine = fit-on (chip .0) (length (chip .1)) [] chip _ fine
 
   -- a run ends with its last dot
   dots-last : (count : ℕ) → afterDots (suc count) chip ≡ afterDot (afterDots count chip)

@@ -1,7 +1,7 @@
 -- What a write comes to, case by case in the order of its faults. Assumes nothing.
 use Prim.Native.Nat.{ℕ}
-use mathlib.Core.Path.{_≡_, ap, _∙_}
-use mathlib.Core.Bool.{true, false}
+use mathlib.Core.Path.{_≡_, refl, ap, sym, _∙_}
+use mathlib.Core.Bool.{Bool, true, false}
 use lib.ListN.{length}
 use Rattle.rules.specs.Rule.{ok, refused}
 use Rattle.rules.specs.Faults.{unless}
@@ -39,18 +39,18 @@ module _ (chip : Chip) (address value : ℕ) where
     module _ (register : Register) (there : named address ≡ Is register) where
       -- 2
       pub write-read-only : readOnly register ≡ true → written chip address value ≡ (chip, refused (numbered (ReadOnly (placeOf address))))
-      write-read-only only = write-by (Is register) there ∙ simp only
+      write-read-only only = write-by (Is register) there ∙ simp only refl
 
       module _ (writable : readOnly register ≡ false) where
         -- 3
         pub write-stray : fits register value ≡ false → written chip address value ≡ (chip, refused (numbered (StrayBits (placeOf address))))
-        write-stray stray = write-by (Is register) there ∙ simp (writable, stray)
+        write-stray stray = write-by (Is register) there ∙ simp (writable, stray) refl
 
         module _ (clean : fits register value ≡ true) where
           -- 4
           pub write-no-room : noRoomFor (chip .0) register ≡ true → written chip address value ≡ (chip, refused (numbered (QueueFull (placeOf address))))
-          write-no-room none = write-by (Is register) there ∙ simp (writable, clean, none)
+          write-no-room none = write-by (Is register) there ∙ simp (writable, clean, none) refl
 
           -- none of them
           pub write-done : noRoomFor (chip .0) register ≡ false → written chip address value ≡ (put chip register value, ok tt)
-          write-done room = write-by (Is register) there ∙ simp (writable, clean, room)
+          write-done room = write-by (Is register) there ∙ simp (writable, clean, room) refl

@@ -1,11 +1,12 @@
 -- The queue as a list, the oldest write first: a write joins at its end, and the oldest leaves from its front. Assumes nothing.
 use Prim.Native.Nat.{ℕ, zero, suc, _+_, _-_, _≤_, _<_}
-use mathlib.Core.Path.{_≡_, refl, ap, _∙_}
+use mathlib.Core.Path.{_≡_, refl, ap, sym, _∙_}
+use mathlib.Core.Bool.{false}
 use mathlib.Core.List.{List, [], _∷_, _++_}
 use native.Mathlib.Numerals.{add-one}
 use native.Mathlib.Omega.{arith}
 use borrow.Author.Tests.{lt-leb}
-use lib.ListN.{length, getD, set, take, drop, length-set, length-append}
+use lib.ListN.{length, getD, set, take, drop, length-set, length-append, length-drop}
 use lib.Seq.{take-suc-set}
 use Rattle.queue.specs.Queue.{zeroSlot, waitingIn, full, oldest, pushed, popped}
 use Rattle.queue.specs.declared.Waiting.{Waiting}
@@ -19,7 +20,7 @@ module _ (queue : Queue) (write : Waiting) (more : queue .waiting < 64) where
   -- where there is room, a write takes the next slot
   pub pushed-is : pushed queue write ≡ record { waiting = queue .waiting + 1; slots = set (queue .slots) (queue .waiting) write }
   unfolding pushed full
-  pushed-is = simp (lt-leb 64 (queue .waiting) more)
+  pushed-is = simp (lt-leb 64 (queue .waiting) more) refl
 
   -- it stands behind those that wait
   pub waiting-pushed : Sized queue → waitingIn (pushed queue write) ≡ waitingIn queue ++ (write ∷ [])

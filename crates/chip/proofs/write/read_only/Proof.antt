@@ -1,6 +1,8 @@
 -- `chip::write::read_only` meets its contract: among control words the number decides, elsewhere nothing is. Assumes nothing.
-use mathlib.Core.Path.{sym}
+use mathlib.Core.Path.{ap, sym}
 use borrow.Author.Needs.{needs}
+use Rattle.registers.specs.declared.Block.{Block}
+use Rattle.chip.specs.Write.{readOnlyIn}
 use Rattle.chip.proofs.Blocks.{elsewhere-writable}
 use Rattle.chip.proofs.write.read_only.Statement.{statement}
 use Rattle.chip.proofs.write.read_only.Tie as tie
@@ -9,7 +11,7 @@ enum-told : tie.Need-enum-told
 enum-told c = search needs
 
 returns : tie.Need-returns
-returns c = cc
+returns c = sym (ap (λ (block : Block). readOnlyIn block (c .before .before .before .args .register .word)) (c .before .enum-told .given .1))
 
 returns-2 : tie.Need-returns-2
 returns-2 c = sym (elsewhere-writable (c .before .args .register .block) (c .before .args .register .word) (c .match .keys2))

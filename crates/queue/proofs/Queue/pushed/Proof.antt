@@ -1,6 +1,6 @@
 -- `queue::Queue::pushed` meets its contract: the next slot where there is room, else nothing. Assumes nothing.
 use Prim.Native.Nat.{_<_}
-use mathlib.Core.Path.{sym, _∙_}
+use mathlib.Core.Path.{refl, sym, _∙_}
 use native.Mathlib.Omega.{arith}
 use borrow.Author.Needs.{needs}
 use borrow.Author.Tests.{leb-false}
@@ -22,7 +22,7 @@ full-requires c κs = search needs
 
 returns : tie.Need-returns
 unfolding pushed
-returns c = simp (← c .before .full .ensures, c .if1 .taken)
+returns c = simp (← c .before .full .ensures, c .if1 .taken) refl
 
 cast-end : tie.Need-cast-end
 cast-end c = search needs

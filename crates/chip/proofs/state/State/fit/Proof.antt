@@ -1,4 +1,6 @@
 -- `chip::state::State::fit` meets its contract: the state first, then the length. Assumes nothing.
+use mathlib.Core.Path.{refl}
+use native.Mathlib.Omega.{arith}
 use borrow.Author.Needs.{needs}
 use borrow.Author.Tests.{eq-eqb, ne-eqb, not-true, not-false}
 use Rattle.chip.specs.Call.{fit}
@@ -10,15 +12,19 @@ good-requires c κs = search needs
 
 returns : tie.Need-returns
 unfolding fit
-returns c = simp (← c .before .good2 .ensures, not-true (c .before .good2 .result) (c .if1 .taken))
+returns c = simp (← c .before .good2 .ensures, not-true (c .before .good2 .result) (c .if1 .taken)) refl
 
 returns-2 : tie.Need-returns-2
 unfolding fit
-returns-2 c = simp (← c .before .before .good2 .ensures, not-false (c .before .before .good2 .result) (c .before .if1 .left), ne-eqb _ _ (c .if2 .taken))
+returns-2 c =
+    let g = c .before .before in
+    simp (← g .good2 .ensures, not-false (g .good2 .result) (c .before .if1 .left), ne-eqb (g .before .args .length) 4963 (λ e. omega arith)) refl
 
 returns-3 : tie.Need-returns-3
 unfolding fit
-returns-3 c = simp (← c .before .before .good2 .ensures, not-false (c .before .before .good2 .result) (c .before .if1 .left), eq-eqb _ _ (c .if2 .left))
+returns-3 c =
+    let g = c .before .before in
+    simp (← g .good2 .ensures, not-false (g .good2 .result) (c .before .if1 .left), eq-eqb (g .before .args .length) 4963 (omega arith)) refl
 
 pub fit-spec : {M : Type 1} → statement M
 fit-spec = tie.close (tie.spec good-requires returns returns-2 returns-3)

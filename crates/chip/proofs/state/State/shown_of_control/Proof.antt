@@ -1,4 +1,5 @@
 -- `chip::state::State::shown_of_control` meets its contract: words 9 and 10 are worked out, the others are stored. Assumes nothing.
+use mathlib.Core.Path.{refl}
 use native.Mathlib.Omega.{arith}
 use borrow.Author.Needs.{needs}
 use borrow.Author.Tests.{eq-eqb, ne-eqb}
@@ -12,17 +13,19 @@ room-requires c κs = search needs
 
 returns : tie.Need-returns
 unfolding shownOfControl
-returns c = simp (eq-eqb _ _ (c .before .before .if1 .taken)) (c .room .ensures)
+returns c = simp (eq-eqb (c .before .before .before .args .word) 9 (omega arith)) (c .room .ensures)
 
 mul-result : tie.Need-mul-result
-mul-result c = omega (arith, good-says _ (c .before .before .pre .0) .2)
+mul-result c = omega (arith, good-says _ (c .before .before .pre .0) .1, good-says _ (c .before .before .pre .0) .2)
 
 add-result : tie.Need-add-result
 add-result c = omega (arith, good-says _ (c .before .before .pre .0) .1, good-says _ (c .before .before .pre .0) .2)
 
 returns-2 : tie.Need-returns-2
 unfolding shownOfControl
-returns-2 c = simp (ne-eqb _ _ (c .before .if1 .left), eq-eqb _ _ (c .if2 .taken))
+returns-2 c =
+    let word = c .before .before .args .word in
+    simp (ne-eqb word 9 (λ e. omega arith), eq-eqb word 10 (omega arith)) refl
 
 mul-result-2 : tie.Need-mul-result-2
 mul-result-2 c = search needs
@@ -33,8 +36,8 @@ element-copy-out-result c = search needs
 returns-3 : tie.Need-returns-3
 unfolding shownOfControl
 returns-3 c =
-    let e = c .before .before in
-    simp (ne-eqb _ _ (c .before .before .if1 .left), ne-eqb _ _ (c .before .if2 .left))
+    let word = c .before .before .before .args .word in
+    simp (ne-eqb word 9 (λ e. omega arith), ne-eqb word 10 (λ e. omega arith)) refl
 
 pub shown-of-control-spec : {M : Type 1} → statement M
 shown-of-control-spec =

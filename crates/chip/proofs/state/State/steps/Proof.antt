@@ -1,5 +1,5 @@
 -- `chip::state::State::steps` meets its contract: what is left of the dots leaves what all of them leave. Assumes nothing.
-use mathlib.Core.Path.{_≡_, refl, sym, _∙_}
+use mathlib.Core.Path.{_≡_, refl, sym, _∙_, ap}
 use mathlib.Core.Bool.{true}
 use native.Mathlib.Omega.{arith}
 use borrow.Author.Needs.{needs}
@@ -20,7 +20,7 @@ loop-holds : tie.Need-loop-holds Inv-loop μ-loop
 loop-holds c = (c .before .pre .0, c .before .pre .1, refl, refl)
 
 leap-requires : tie.Need-leap-requires Inv-loop μ-loop
-leap-requires c κs = (c .before .before .loop .inv .0, c .before .before .loop .inv .1, c .before .loop-test .taken)
+leap-requires c κs = (c .before .before .loop .inv .0, c .before .before .loop .inv .1, omega arith)
 
 loop-less : tie.Need-loop-less Inv-loop μ-loop
 loop-less c = c .before .before .before .leap .ensures .2

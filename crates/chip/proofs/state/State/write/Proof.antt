@@ -1,21 +1,35 @@
 -- `chip::state::State::write` meets its contract: each return is a case of the order 11, 5, 1, 2, 3, 4. Assumes nothing.
+use Prim.Native.Nat.{ℕ}
 use mathlib.Core.Path.{sym, _∙_, ap, _≡_}
 use mathlib.Core.Bool.{true, false}
+use mathlib.Core.List.{List}
 use borrow.Author.Needs.{needs}
 use borrow.Author.Tests.{not-true, not-false}
 use lib.ListN.{length}
-use Rattle.rules.specs.Rule.{ok, refused}
+use Rattle.rules.specs.Rule.{Outcome, ok, refused}
+use Rattle.rules.specs.Faults.{Numbered}
 use Rattle.registers.specs.Named.{named}
 use Rattle.registers.specs.Kept.{fits}
 use Rattle.registers.specs.declared.Named.the-variants.{Is}
 use Rattle.registers.proofs.Naming.{named-word}
+use Rattle.chip.specs.Refusal.{numbered}
 use Rattle.chip.specs.Call.{Chip, fit}
-use Rattle.chip.specs.Write.{readOnly}
+use Rattle.chip.specs.Write.{readOnly, told}
+use Rattle.chip.specs.declared.refusal.Refusal.{Refusal}
+use Rattle.chip.specs.declared.refusal.Refusal.the-variants.{NoRegister, ReadOnly, StrayBits, QueueFull}
+use Rattle.chip.specs.declared.state.State.{State}
 use Rattle.chip.specs.declared.state.Fit.the-variants.{Yes}
+use Rattle.chip.specs.declared.write.Answer.the-variants.{Refused}
+use Rattle.chip.specs.declared.write.Written.{Written}
 use Rattle.chip.proofs.Writes.{write-unfit, write-nowhere, write-read-only, write-stray, write-no-room, write-done}
 use Rattle.chip.proofs.Fit.{fit-says}
 use Rattle.chip.proofs.state.State.write.Statement.{statement}
 use Rattle.chip.proofs.state.State.write.Tie as tie
+
+-- a refused write leaves and says this
+says : (state : State) (store : List ℕ) (refusal : Refusal) (r : Written) → r ≡ record { state = state; answer = Refused refusal }
+    → _≡_ {A = Chip × Outcome Numbered (Unit {0})} ((r .state, store), told (r .answer)) ((state, store), refused (numbered refusal))
+says state store refusal r e = ap (λ (r : Written). ((r .state, store), told (r .answer))) e
 
 -- past the first test the call may go on
 going : (c : tie.After-at) → let s = c .before .before .before .before .before .before .args in fit (s .self) (length (s .store .now)) ≡ Yes
@@ -46,7 +60,8 @@ returns : tie.Need-returns
 returns c =
     let f = c .before .before .before .before in
     let s = f .before .before .args in
-    rw (c .refused .ensures) (sym (write-unfit (s .self, s .store .now) (s .address) (s .value) _ (sym (f .fit .ensures) ∙ c .before .before .fit2 .given .1)))
+    says (s .self) (s .store .now) _ _ (c .refused .ensures)
+    ∙ sym (write-unfit (s .self, s .store .now) (s .address) (s .value) _ (sym (f .fit .ensures) ∙ c .before .before .fit2 .given .1))
 
 enum-told : tie.Need-enum-told
 enum-told c = search needs
@@ -72,8 +87,9 @@ returns-2 c =
     let p = a .before in
     let f = p .before .before .before in
     let s = f .before .before .args in
-    rw (c .refused2 .ensures, p .place .ensures)
-    (sym (write-nowhere (s .self, s .store .now) (s .address) (s .value) (sym (f .fit .ensures) ∙ p .before .enum-told .given .1) (sym (a .at .ensures) ∙ c .before .enum-told2 .given .1)))
+    says (s .self) (s .store .now) _ _ (c .refused2 .ensures)
+    ∙ ap (λ (place : ℕ). ((s .self, s .store .now), refused (numbered (NoRegister place)))) (p .place .ensures)
+    ∙ sym (write-nowhere (s .self, s .store .now) (s .address) (s .value) (sym (f .fit .ensures) ∙ p .before .enum-told .given .1) (sym (a .at .ensures) ∙ c .before .enum-told2 .given .1))
 
 read-only-requires : tie.Need-read-only-requires
 read-only-requires c κs = search needs
@@ -86,8 +102,9 @@ returns-3 c =
     let k = c .before .before .before in
     let a = k .before .before .before in
     let s = a .before .before .before .before .before .before .args in
-    rw (c .refused3 .ensures, a .before .place .ensures)
-    (sym (write-read-only (s .self, s .store .now) (s .address) (s .value) (going a) _ (there k) (sym (c .before .before .read-only .ensures) ∙ c .before .if1 .taken)))
+    says (s .self) (s .store .now) _ _ (c .refused3 .ensures)
+    ∙ ap (λ (place : ℕ). ((s .self, s .store .now), refused (numbered (ReadOnly place)))) (a .before .place .ensures)
+    ∙ sym (write-read-only (s .self, s .store .now) (s .address) (s .value) (going a) _ (there k) (sym (c .before .before .read-only .ensures) ∙ c .before .if1 .taken))
 
 fits-requires : tie.Need-fits-requires
 fits-requires c κs = search needs
@@ -102,8 +119,9 @@ returns-4 c =
     let k = w .before .before in
     let a = k .before .before .before in
     let s = a .before .before .before .before .before .before .args in
-    rw (c .refused4 .ensures, a .before .place .ensures)
-    (sym (write-stray (s .self, s .store .now) (s .address) (s .value) (going a) _ (there k) (writable w) (sym (t .before .fits2 .ensures) ∙ not-true (t .before .fits2 .result) (t .if2 .taken))))
+    says (s .self) (s .store .now) _ _ (c .refused4 .ensures)
+    ∙ ap (λ (place : ℕ). ((s .self, s .store .now), refused (numbered (StrayBits place)))) (a .before .place .ensures)
+    ∙ sym (write-stray (s .self, s .store .now) (s .address) (s .value) (going a) _ (there k) (writable w) (sym (t .before .fits2 .ensures) ∙ not-true (t .before .fits2 .result) (t .if2 .taken)))
 
 no-room-for-requires : tie.Need-no-room-for-requires
 no-room-for-requires c κs = search needs
@@ -119,8 +137,9 @@ returns-5 c =
     let k = w .before .before in
     let a = k .before .before .before in
     let s = a .before .before .before .before .before .before .args in
-    rw (c .refused5 .ensures, a .before .place .ensures)
-    (sym (write-no-room (s .self, s .store .now) (s .address) (s .value) (going a) _ (there k) (writable w) (clean v) (sym (t .before .no-room-for .ensures) ∙ t .if3 .taken)))
+    says (s .self) (s .store .now) _ _ (c .refused5 .ensures)
+    ∙ ap (λ (place : ℕ). ((s .self, s .store .now), refused (numbered (QueueFull place)))) (a .before .place .ensures)
+    ∙ sym (write-no-room (s .self, s .store .now) (s .address) (s .value) (going a) _ (there k) (writable w) (clean v) (sym (t .before .no-room-for .ensures) ∙ t .if3 .taken))
 
 put-requires : tie.Need-put-requires
 put-requires c κs =
