@@ -1,7 +1,7 @@
 -- What holds in every block but some: what a match answers for the blocks that it does not name. Assumes nothing.
 use Prim.Native.Nat.{ℕ}
 use mathlib.Core.Path.{_≡_, refl}
-use mathlib.Core.Bool.{true, false}
+use mathlib.Core.Bool.{true, false, true≢false, false≢true}
 use mathlib.Core.List.{List, [], _∷_}
 use types.Run.{OneOf, miss}
 use denote.Enum.Declared.{tagOf}
@@ -31,14 +31,23 @@ but-both = 1 ∷ 3 ∷ 4 ∷ 5 ∷ []
 abbrev In : List ℕ → Block → Type 0
 In tags block = OneOf tags (tagOf the-type block)
 
--- every block but control can be written
-pub elsewhere-writable : (block : Block) (word : ℕ) → In but-control block → readOnlyIn block word ≡ false
-elsewhere-writable Control word other = absurd (miss but-control 0 (tt {0}) other)
-elsewhere-writable WindowEntries word other = refl
-elsewhere-writable ColourMap word other = refl
-elsewhere-writable GammaMap word other = refl
-elsewhere-writable CursorGlyph word other = refl
-elsewhere-writable CursorColours word other = refl
+-- every block but control is in the store
+pub elsewhere-stored : (block : Block) → In but-control block → inStore block ≡ true
+elsewhere-stored Control other = absurd (miss but-control 0 (tt {0}) other)
+elsewhere-stored WindowEntries other = refl
+elsewhere-stored ColourMap other = refl
+elsewhere-stored GammaMap other = refl
+elsewhere-stored CursorGlyph other = refl
+elsewhere-stored CursorColours other = refl
+
+-- a block in the store can be written
+pub stored-writable : (block : Block) (word : ℕ) → inStore block ≡ true → readOnlyIn block word ≡ false
+stored-writable Control word stored = absurd (false≢true stored)
+stored-writable WindowEntries word stored = refl
+stored-writable ColourMap word stored = refl
+stored-writable GammaMap word stored = refl
+stored-writable CursorGlyph word stored = refl
+stored-writable CursorColours word stored = refl
 
 -- writes to every block but the colour map act at once
 pub elsewhere-at-once : (block : Block) → In but-map block → waitsIn block ≡ false
@@ -49,38 +58,31 @@ elsewhere-at-once GammaMap other = refl
 elsewhere-at-once CursorGlyph other = refl
 elsewhere-at-once CursorColours other = refl
 
--- every block but control is in the store, and shows what is stored
-pub elsewhere-stored : (block : Block) → In but-control block → inStore block ≡ true
-elsewhere-stored Control other = absurd (miss but-control 0 (tt {0}) other)
-elsewhere-stored WindowEntries other = refl
-elsewhere-stored ColourMap other = refl
-elsewhere-stored GammaMap other = refl
-elsewhere-stored CursorGlyph other = refl
-elsewhere-stored CursorColours other = refl
-
--- so is every block but control and the colour map
-pub neither-stored : (block : Block) → In but-both block → inStore block ≡ true
-neither-stored Control other = absurd (miss but-both 0 (tt {0}) other)
-neither-stored WindowEntries other = refl
-neither-stored ColourMap other = refl
-neither-stored GammaMap other = refl
-neither-stored CursorGlyph other = refl
-neither-stored CursorColours other = refl
+-- every block but control and the colour map is in the store, and writes to it act at once
+pub neither-waits : (block : Block) → In but-both block → (inStore block ≡ true) × (waitsIn block ≡ false)
+neither-waits Control other = absurd (miss but-both 0 (tt {0}) other)
+neither-waits WindowEntries other = (refl, refl)
+neither-waits ColourMap other = absurd (miss but-both 2 (tt {0}) other)
+neither-waits GammaMap other = (refl, refl)
+neither-waits CursorGlyph other = (refl, refl)
+neither-waits CursorColours other = (refl, refl)
 
 module _ (chip : Chip) (register : Register) where
-  pub elsewhere-shown : (block : Block) → In but-control block → shownIn chip block register ≡ stored (chip .1) register
-  elsewhere-shown Control other = absurd (miss but-control 0 (tt {0}) other)
-  elsewhere-shown WindowEntries other = refl
-  elsewhere-shown ColourMap other = refl
-  elsewhere-shown GammaMap other = refl
-  elsewhere-shown CursorGlyph other = refl
-  elsewhere-shown CursorColours other = refl
+  -- a block in the store shows what is stored
+  pub stored-shown : (block : Block) → inStore block ≡ true → shownIn chip block register ≡ stored (chip .1) register
+  stored-shown Control here = absurd (false≢true here)
+  stored-shown WindowEntries here = refl
+  stored-shown ColourMap here = refl
+  stored-shown GammaMap here = refl
+  stored-shown CursorGlyph here = refl
+  stored-shown CursorColours here = refl
 
-  -- a write to any other block than these two goes into the store
-  pub elsewhere-put : (block : Block) (value : ℕ) → In but-both block → putIn chip block register value ≡ (chip .0, set (chip .1) (storeIndex register) value)
-  elsewhere-put Control value other = absurd (miss but-both 0 (tt {0}) other)
-  elsewhere-put WindowEntries value other = refl
-  elsewhere-put ColourMap value other = absurd (miss but-both 2 (tt {0}) other)
-  elsewhere-put GammaMap value other = refl
-  elsewhere-put CursorGlyph value other = refl
-  elsewhere-put CursorColours value other = refl
+  -- a write to one that does not wait goes into the store
+  pub stored-put : (block : Block) (value : ℕ) → inStore block ≡ true → waitsIn block ≡ false
+      → putIn chip block register value ≡ (chip .0, set (chip .1) (storeIndex register) value)
+  stored-put Control value here now = absurd (false≢true here)
+  stored-put WindowEntries value here now = refl
+  stored-put ColourMap value here now = absurd (true≢false now)
+  stored-put GammaMap value here now = refl
+  stored-put CursorGlyph value here now = refl
+  stored-put CursorColours value here now = refl

@@ -15,23 +15,18 @@ use Rattle.registers.specs.Kept.{keptOfControl, fits}
 use Rattle.registers.specs.declared.Block.{Block}
 use Rattle.registers.specs.declared.Block.the-variants.{Control, WindowEntries, ColourMap, GammaMap, CursorGlyph, CursorColours}
 use Rattle.registers.specs.declared.Register.{Register}
-use Rattle.registers.proofs.Kept.{colour-below}
-use Rattle.queue.specs.Queue.{full}
+use Rattle.queue.specs.Queue.{full, Sized}
 use Rattle.queue.specs.Good.{goodQueue}
 use Rattle.queue.specs.declared.Waiting.{Waiting}
 use Rattle.queue.specs.declared.Queue.{Queue}
-use Rattle.queue.proofs.Order.{Sized, sized-pushed, sized-popped}
+use Rattle.queue.proofs.Order.{sized-pushed, sized-popped}
 use Rattle.queue.proofs.Rule.{both, says-write, good-pushed, good-popped}
-use Rattle.chip.specs.State.{fresh, controlWord, withPosition, goodWords, goodState}
+use Rattle.chip.specs.State.{Whole, fresh, controlWord, withPosition, goodWords, goodState}
 use Rattle.chip.specs.Call.{Chip}
 use Rattle.chip.specs.Write.{waitsIn, waits, putIn, put}
 use Rattle.chip.specs.Dot.{drains, afterDot}
 use Rattle.chip.specs.Dots.{afterDots}
 use Rattle.chip.specs.declared.state.State.{State}
-
--- the state's arrays have their sizes: 9 control words, 64 slots
-abbrev pub Whole : State → Type 0
-Whole state = (length (state .control) ≡ 9) × Sized (state .queue)
 
 -- what holds of both of two values holds of the one that a test chooses
 pub chosen : {A : Type 0} (Holds : A → Type 0) (test : Bool) {one other : A} → Holds one → Holds other → Holds (cond test one other)
@@ -113,7 +108,7 @@ module _ (chip : Chip) (whole : Whole (chip .0)) where
       let said = good-says (chip .0) good in
       let write : Waiting = record { entry = word; colour = value } in
       says-good (putIn chip ColourMap (word-of ColourMap word) value .0) (said .0) (said .1) (said .2)
-      (good-pushed (chip .0 .queue) (whole .1) (said .3) write (not-full (chip .0 .queue) free) (says-write write here (colour-below word value fine)))
+      (good-pushed (chip .0 .queue) (whole .1) (said .3) write (not-full (chip .0 .queue) free) (says-write write here fine))
   in-good good GammaMap word value here fine free = good
   in-good good CursorGlyph word value here fine free = good
   in-good good CursorColours word value here fine free = good

@@ -7,6 +7,7 @@ use native.Mathlib.Omega.{arith}
 use borrow.Author.Tests.{ltb-true, le-ltb}
 use lib.Dec.{ltb}
 use lib.ListN.{length, set}
+use Rattle.chip.specs.Inner.{fit, Leapt}
 use Rattle.rules.specs.Rule.{ok, refused}
 use Rattle.timing.specs.Signals.{signalsAt}
 use Rattle.timing.specs.Move.{nextPosition, positionAfter}
@@ -18,15 +19,15 @@ use Rattle.registers.specs.Store.{storeLength}
 use Rattle.queue.specs.Queue.{oldest, popped}
 use Rattle.queue.proofs.Rule.{both}
 use Rattle.chip.specs.Refusal.{numbered}
-use Rattle.chip.specs.State.{controlWord, windowsOf, withPosition, withQueue, goodState}
-use Rattle.chip.specs.Call.{Chip, fit}
+use Rattle.chip.specs.State.{controlWord, windowsOf, withPosition, withQueue, goodState, Whole}
+use Rattle.chip.specs.Call.{Chip}
 use Rattle.chip.specs.Dot.{signalsOf, drains, target, moved, afterDot, dotted}
-use Rattle.chip.specs.Dots.{afterDots, Leapt, lastReport, ran}
+use Rattle.chip.specs.Dots.{afterDots, lastReport, ran}
 use Rattle.chip.specs.declared.refusal.Refusal.{Refusal}
 use Rattle.chip.specs.declared.state.State.{State}
 use Rattle.chip.specs.declared.dots.Report.the-variants.{Nothing, Last}
 use Rattle.chip.specs.declared.state.Fit.the-variants.{Yes, Refused}
-use Rattle.chip.proofs.Good.{Whole, dot-length, dot-good, placed-good, dots-add}
+use Rattle.chip.proofs.Good.{dot-length, dot-good, placed-good, dots-add}
 use Rattle.chip.proofs.Fit.{fit-on, fit-off}
 
 module _ (state : State) (store : List ℕ) where

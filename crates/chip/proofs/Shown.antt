@@ -1,21 +1,25 @@
 -- What a read shows: the room in the queue, and of every other block the stored word, whatever waits. Assumes nothing.
-use Prim.Native.Nat.{ℕ, _-_}
+use Prim.Native.Nat.{ℕ, _+_, _-_, _*_, _^_}
 use mathlib.Core.Path.{_≡_, refl, ap, sym, _∙_}
 use mathlib.Core.Bool.{true}
 use mathlib.Core.List.{List}
+use native.Mathlib.Omega.{arith}
 use lib.ListN.{length}
 use Rattle.rules.specs.Rule.{ok}
+use Rattle.words.specs.Field.{field}
 use Rattle.registers.specs.Named.{named}
-use Rattle.registers.specs.Store.{storeLength}
+use Rattle.registers.specs.Store.{inStore, storeLength}
 use Rattle.registers.specs.declared.Block.{Block}
 use Rattle.registers.specs.declared.Block.the-variants.{Control, WindowEntries, ColourMap, GammaMap, CursorGlyph, CursorColours}
 use Rattle.registers.specs.declared.Register.{Register}
 use Rattle.registers.specs.declared.Named.the-variants.{Is}
-use Rattle.registers.proofs.Naming.{named-room}
+use Rattle.registers.proofs.Naming.{named-room, named-position}
 use Rattle.chip.specs.State.{goodState}
 use Rattle.chip.specs.Call.{Chip}
 use Rattle.chip.specs.Read.{shownOfControl, stored, shownIn, shown, readBack}
 use Rattle.chip.specs.declared.state.State.{State}
+use Rattle.chip.proofs.Blocks.{stored-shown}
+use Rattle.chip.proofs.Good.{good-says}
 use Rattle.chip.proofs.Fit.{says-fit}
 use Rattle.chip.proofs.Readings.{read-shown}
 
@@ -29,23 +33,23 @@ module _ (chip : Chip) (good : goodState (chip .0) ≡ true) (size : length (chi
   unfolding shownOfControl
   room = read-named 0x24 (record { block = Control; word = 9 }) named-room
 
-  -- every other block shows the stored word
-  shows-stored : (block : Block) (register : Register) → (block ≡ Control → ⊥) → shownIn chip block register ≡ stored (chip .1) register
-  shows-stored Control register other = absurd (other refl)
-  shows-stored WindowEntries register other = refl
-  shows-stored ColourMap register other = refl
-  shows-stored GammaMap register other = refl
-  shows-stored CursorGlyph register other = refl
-  shows-stored CursorColours register other = refl
+  -- control word 10 shows the position: x in 11..0, y in 27..16
+  pub position : (readBack chip 0x28 .1 ≡ ok (chip .0 .at .y * 2 ^ 16 + chip .0 .at .x))
+      × (field (chip .0 .at .y * 2 ^ 16 + chip .0 .at .x) 11 0 ≡ chip .0 .at .x)
+      × (field (chip .0 .at .y * 2 ^ 16 + chip .0 .at .x) 27 16 ≡ chip .0 .at .y)
+  unfolding shownOfControl
+  position =
+      let said = good-says (chip .0) good in
+      (read-named 0x28 (record { block = Control; word = 10 }) named-position, omega (arith, said .1), omega (arith, said .1, said .2))
 
-  -- a read of any block but control shows the stored word, whatever waits
-  pub read-stored : (address : ℕ) (register : Register) → named address ≡ Is register → (register .block ≡ Control → ⊥)
+  -- a read of any block in the store shows the stored word's kept bits, whatever waits
+  pub read-stored : (address : ℕ) (register : Register) → named address ≡ Is register → inStore (register .block) ≡ true
       → readBack chip address .1 ≡ ok (stored (chip .1) register)
-  read-stored address register names other = read-named address register names ∙ ap ok (shows-stored (register .block) register other)
+  read-stored address register names here = read-named address register names ∙ ap ok (stored-shown chip register (register .block) here)
 
 -- so it does not rest on the state: whatever its control words, its position and its queue
 pub read-not-waiting : (state state′ : State) (store : List ℕ) → goodState state ≡ true → goodState state′ ≡ true → length store ≡ storeLength
-    → (address : ℕ) (register : Register) → named address ≡ Is register → (register .block ≡ Control → ⊥)
+    → (address : ℕ) (register : Register) → named address ≡ Is register → inStore (register .block) ≡ true
     → readBack (state, store) address .1 ≡ readBack (state′, store) address .1
-read-not-waiting state state′ store good good′ size address register names other =
-    read-stored (state, store) good size address register names other ∙ sym (read-stored (state′, store) good′ size address register names other)
+read-not-waiting state state′ store good good′ size address register names here =
+    read-stored (state, store) good size address register names here ∙ sym (read-stored (state′, store) good′ size address register names here)

@@ -36,9 +36,9 @@ drains state = signalsOf state .blank && ltb 0 (state .queue .waiting)
 abbrev pub target : Waiting → ℕ
 target write = storeIndex (record { block = ColourMap; word = write .entry })
 
--- the oldest write leaves the queue for its place in the store
-abbrev pub applied : Chip → Chip
-applied chip = (
+-- if blanked and something waits, the oldest write leaves the queue for its place in the store
+abbrev pub drained : Chip → Chip
+drained chip = (
   withQueue (chip .0) (cond (drains (chip .0)) (popped (chip .0 .queue)) (chip .0 .queue)),
   cond (drains (chip .0)) (set (chip .1) (target (oldest (chip .0 .queue))) (oldest (chip .0 .queue) .colour)) (chip .1),
 )
@@ -49,7 +49,7 @@ moved state = withPosition state (nextPosition (state .at) (controlWord state 1)
 
 -- what a dot leaves
 unfoldable pub afterDot : Chip → Chip
-afterDot chip = (moved (applied chip .0), applied chip .1)
+afterDot chip = (moved (drained chip .0), drained chip .1)
 
 -- what a dot leaves and answers; it is refused by 11, then 5
 unfoldable pub dotted : Chip → Chip × Outcome Numbered Signals

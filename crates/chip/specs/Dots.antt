@@ -1,13 +1,9 @@
 -- Many dots: one after the other, checked once.
-use Prim.Native.Nat.{ℕ, zero, suc, _<_}
-use mathlib.Core.Path.{_≡_}
-use mathlib.Core.Bool.{true}
+use Prim.Native.Nat.{ℕ, zero, suc}
 use lib.ListN.{length}
 use Rattle.rules.specs.Rule.{Outcome, ok, refused}
 use Rattle.rules.specs.Faults.{Numbered, unless}
-use Rattle.registers.specs.Store.{storeLength}
 use Rattle.chip.specs.Refusal.{numbered}
-use Rattle.chip.specs.State.{goodState}
 use Rattle.chip.specs.Call.{Chip, callFaults}
 use Rattle.chip.specs.Dot.{signalsOf, afterDot}
 use Rattle.chip.specs.declared.dots.Report.{Report}
@@ -24,11 +20,6 @@ told (Refused refusal) = refused (numbered refusal)
 unfoldable pub afterDots : ℕ → Chip → Chip
 afterDots zero chip = chip
 afterDots (suc count) chip = afterDots count (afterDot chip)
-
--- some of the dots have been done: fewer are left, and doing those leaves what doing all leaves
-abbrev pub Leapt : Chip → ℕ → Chip → ℕ → Type 0
-Leapt before count after left =
-    (goodState (after .0) ≡ true) × (length (after .1) ≡ storeLength) × (left < count) × (afterDots left after ≡ afterDots count before)
 
 -- what the last of them reports; no dot reports nothing
 unfoldable pub lastReport : ℕ → Chip → Report

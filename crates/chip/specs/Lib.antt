@@ -5,3 +5,4 @@ pub mod Write
 pub mod Read
 pub mod Dot
 pub mod Dots
+pub mod Inner

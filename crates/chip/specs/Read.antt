@@ -5,7 +5,7 @@ use mathlib.Core.List.{List, [], _∷_, _++_}
 use lib.Dec.{eqb}
 use lib.ListN.{length, getD}
 use Rattle.rules.specs.Rule.{Outcome, ok, refused}
-use Rattle.rules.specs.Faults.{Numbered, Fault, fault, unless}
+use Rattle.rules.specs.Faults.{Numbered, Fault, unless}
 use Rattle.registers.specs.Named.{placeOf, named}
 use Rattle.registers.specs.Kept.{keptOf}
 use Rattle.registers.specs.Store.{storeIndex}
@@ -15,9 +15,10 @@ use Rattle.registers.specs.declared.Register.{Register}
 use Rattle.registers.specs.declared.Named.{Named}
 use Rattle.registers.specs.declared.Named.the-variants.{Is, Nothing}
 use Rattle.queue.specs.Queue.{room}
-use Rattle.chip.specs.Refusal.{numbered}
+use Rattle.chip.specs.Refusal.{numbered, fault}
 use Rattle.chip.specs.State.{controlWord}
 use Rattle.chip.specs.Call.{Chip, callFaults}
+use Rattle.chip.specs.declared.refusal.Refusal.the-variants.{NoRegister}
 use Rattle.chip.specs.declared.state.State.{State}
 use Rattle.chip.specs.declared.read.Answer.{Answer}
 use Rattle.chip.specs.declared.read.Answer.the-variants.{Word, Refused}
@@ -47,16 +48,18 @@ shownIn chip GammaMap register = stored (chip .1) register
 shownIn chip CursorGlyph register = stored (chip .1) register
 shownIn chip CursorColours register = stored (chip .1) register
 
+-- so of a register
 abbrev pub shown : Chip → Register → ℕ
 shown chip register = shownIn chip (register .block) register
 
+-- an address that names nothing is refused before anything is shown
 abbrev pub shownNamed : Chip → Named → ℕ
 shownNamed chip Nothing = 0
 shownNamed chip (Is register) = shown chip register
 
 -- an address that names nothing: 1
 abbrev pub nameFaults : Named → ℕ → List Fault
-nameFaults Nothing place = fault 1 place true ∷ []
+nameFaults Nothing place = fault (NoRegister place) true ∷ []
 nameFaults (Is register) place = []
 
 -- 11, 5, 1

@@ -5,7 +5,7 @@ use mathlib.Core.List.{List, [], _∷_, _++_}
 use lib.Dec.{leb}
 use lib.ListN.{length, set}
 use Rattle.rules.specs.Rule.{Outcome, ok, refused}
-use Rattle.rules.specs.Faults.{Numbered, Fault, fault, unless}
+use Rattle.rules.specs.Faults.{Numbered, Fault, unless}
 use Rattle.registers.specs.Named.{placeOf, named}
 use Rattle.registers.specs.Kept.{fits}
 use Rattle.registers.specs.Store.{storeIndex}
@@ -15,9 +15,10 @@ use Rattle.registers.specs.declared.Register.{Register}
 use Rattle.registers.specs.declared.Named.{Named}
 use Rattle.registers.specs.declared.Named.the-variants.{Is, Nothing}
 use Rattle.queue.specs.Queue.{full, pushed}
-use Rattle.chip.specs.Refusal.{numbered}
+use Rattle.chip.specs.Refusal.{numbered, fault}
 use Rattle.chip.specs.State.{withWord, withQueue}
 use Rattle.chip.specs.Call.{Chip, callFaults}
+use Rattle.chip.specs.declared.refusal.Refusal.the-variants.{NoRegister, ReadOnly, StrayBits, QueueFull}
 use Rattle.chip.specs.declared.state.State.{State}
 use Rattle.chip.specs.declared.write.Answer.{Answer}
 use Rattle.chip.specs.declared.write.Answer.the-variants.{Done, Refused}
@@ -36,6 +37,7 @@ readOnlyIn GammaMap word = false
 readOnlyIn CursorGlyph word = false
 readOnlyIn CursorColours word = false
 
+-- so of a register
 abbrev pub readOnly : Register → Bool
 readOnly register = readOnlyIn (register .block) (register .word)
 
@@ -48,6 +50,7 @@ waitsIn GammaMap = false
 waitsIn CursorGlyph = false
 waitsIn CursorColours = false
 
+-- so of a register
 abbrev pub waits : Register → Bool
 waits register = waitsIn (register .block)
 
@@ -57,11 +60,11 @@ noRoomFor state register = waits register && full (state .queue)
 
 -- what a write of a value to what its address names is refused for, at the address: 1, 2, 3, 4
 abbrev pub registerFaults : Chip → Named → ℕ → ℕ → List Fault
-registerFaults chip Nothing place value = fault 1 place true ∷ []
+registerFaults chip Nothing place value = fault (NoRegister place) true ∷ []
 registerFaults chip (Is register) place value =
-    fault 2 place (readOnly register)
-    ∷ fault 3 place (not (fits register value))
-    ∷ fault 4 place (noRoomFor (chip .0) register)
+    fault (ReadOnly place) (readOnly register)
+    ∷ fault (StrayBits place) (not (fits register value))
+    ∷ fault (QueueFull place) (noRoomFor (chip .0) register)
     ∷ []
 
 -- 11, 5, 1, 2, 3, 4
@@ -77,9 +80,11 @@ putIn chip GammaMap register value = (chip .0, set (chip .1) (storeIndex registe
 putIn chip CursorGlyph register value = (chip .0, set (chip .1) (storeIndex register) value)
 putIn chip CursorColours register value = (chip .0, set (chip .1) (storeIndex register) value)
 
+-- a value goes where its register's block says
 abbrev pub put : Chip → Register → ℕ → Chip
 put chip register value = putIn chip (register .block) register value
 
+-- where an address names nothing, nowhere
 abbrev pub putNamed : Chip → Named → ℕ → Chip
 putNamed chip Nothing value = chip
 putNamed chip (Is register) value = put chip register value

@@ -1,9 +1,8 @@
 -- What C is answered by the chip's calls: 0 for done, or the refusal's number and its place.
 use Prim.Native.Nat.{ℕ}
 use mathlib.Core.List.{List}
-use lib.ListN.{getD}
 use Rattle.rules.specs.Rule.{Outcome, ok, refused}
-use Rattle.rules.specs.Faults.{Numbered}
+use Rattle.rules.specs.Faults.{Numbered, placeIn}
 use Rattle.timing.specs.declared.Signals.{Signals}
 use Rattle.chip.specs.Call.{Chip}
 use Rattle.chip.specs.Write.{written}
@@ -18,14 +17,10 @@ use Rattle.emulator.specs.declared.calls.Written.{Written}
 use Rattle.emulator.specs.declared.calls.ReadBack.{ReadBack}
 use Rattle.emulator.specs.declared.calls.Dotted.{Dotted}
 
--- the place of a refusal: the first of its values
-abbrev pub placeOf : Numbered → ℕ
-placeOf refusal = getD (refusal .values) 0 0
-
 -- a write
 abbrev pub writeAnswer : State → Outcome Numbered (Unit {0}) → Written
 writeAnswer state (ok done) = record { state = state; number = 0; place = 0 }
-writeAnswer state (refused refusal) = record { state = state; number = refusal .number; place = placeOf refusal }
+writeAnswer state (refused refusal) = record { state = state; number = refusal .number; place = placeIn refusal }
 
 -- what it answers, and the words of the store after it
 unfoldable pub writtenInNumbers : Chip → ℕ → ℕ → Written × List ℕ
@@ -36,7 +31,7 @@ writtenInNumbers chip address value =
 -- a read; where it is refused the word is 0
 abbrev pub readAnswer : State → Outcome Numbered ℕ → ReadBack
 readAnswer state (ok word) = record { state = state; number = 0; place = 0; word = word }
-readAnswer state (refused refusal) = record { state = state; number = refusal .number; place = placeOf refusal; word = 0 }
+readAnswer state (refused refusal) = record { state = state; number = refusal .number; place = placeIn refusal; word = 0 }
 
 -- what it answers; it changes no word of the store
 unfoldable pub readInNumbers : Chip → ℕ → ReadBack
@@ -57,13 +52,13 @@ reportedBy state signals =
 
 -- dots that were not: no signals
 abbrev pub unreported : State → ℕ → ℕ → Dotted
-unreported state number place =
-    record { state = state; number = number; place = place; reported = 0; hsync = 0; vsync = 0; blank = 0 }
+unreported state refusal place =
+    record { state = state; number = refusal; place = place; reported = 0; hsync = 0; vsync = 0; blank = 0 }
 
 -- a dot
 abbrev pub dotAnswer : State → Outcome Numbered Signals → Dotted
 dotAnswer state (ok signals) = reportedBy state signals
-dotAnswer state (refused refusal) = unreported state (refusal .number) (placeOf refusal)
+dotAnswer state (refused refusal) = unreported state (refusal .number) (placeIn refusal)
 
 -- what it answers, and the words of the store after it
 unfoldable pub dottedInNumbers : Chip → Dotted × List ℕ
@@ -73,7 +68,7 @@ dottedInNumbers chip = let all = dotted chip in (dotAnswer (all .0 .0) (all .1),
 abbrev pub dotsAnswer : State → Outcome Numbered Report → Dotted
 dotsAnswer state (ok Nothing) = unreported state 0 0
 dotsAnswer state (ok (Last signals)) = reportedBy state signals
-dotsAnswer state (refused refusal) = unreported state (refusal .number) (placeOf refusal)
+dotsAnswer state (refused refusal) = unreported state (refusal .number) (placeIn refusal)
 
 -- what it answers, and the words of the store after it
 unfoldable pub ranInNumbers : Chip → ℕ → Dotted × List ℕ

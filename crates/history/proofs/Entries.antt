@@ -18,13 +18,13 @@ use Rattle.registers.proofs.Store.{map-entry-apart}
 use Rattle.queue.specs.Queue.{oldest}
 use Rattle.queue.specs.declared.Waiting.{Waiting}
 use Rattle.queue.specs.declared.Queue.{Queue}
-use Rattle.chip.specs.State.{fresh}
+use Rattle.chip.specs.State.{fresh, Whole}
 use Rattle.chip.specs.Call.{Chip}
 use Rattle.chip.specs.Write.{putIn}
 use Rattle.chip.specs.Dot.{signalsOf, drains, target, afterDot}
 use Rattle.history.specs.Calls.{Call, end}
 use Rattle.history.specs.Ledger.{front, applied, latest}
-use Rattle.chip.proofs.Good.{Whole, fresh-whole}
+use Rattle.chip.proofs.Good.{fresh-whole}
 use Rattle.chip.proofs.Fit.{fit-says}
 use Rattle.history.proofs.Calls.{Law, law-calls}
 

@@ -1,20 +1,21 @@
 -- The moment of a colour write: the one with k before it in the queue is applied at exactly the blanked dot that has k before it, so within 64. Assumes nothing.
 use Prim.Native.Nat.{ℕ, _-_, _≤_, _<_}
-use mathlib.Core.Path.{_≡_}
+use mathlib.Core.Path.{_≡_, sym, ap, _∙_}
 use mathlib.Core.Bool.{true}
-use mathlib.Core.List.{List, [], _∷_}
+use mathlib.Core.List.{List, [], _∷_, _++_, append-nil}
 use native.Mathlib.Omega.{arith}
 use lib.ListN.{length, getD}
 use Rattle.queue.specs.Queue.{zeroSlot, waitingIn}
-use Rattle.chip.specs.State.{fresh, goodState}
+use Rattle.chip.specs.State.{fresh, goodState, Whole}
+use Rattle.queue.specs.declared.Waiting.{Waiting}
 use Rattle.chip.specs.Call.{Chip}
-use Rattle.history.specs.Calls.{Call, end}
-use Rattle.history.specs.Ledger.{blanked}
-use Rattle.chip.proofs.Good.{Whole, fresh-whole, fresh-good}
+use Rattle.history.specs.Calls.{Call, write, after, end}
+use Rattle.history.specs.Ledger.{accepts, accepted, blanks, blanked}
+use Rattle.chip.proofs.Good.{fresh-whole, fresh-good}
 use Rattle.history.proofs.Calls.{stays-whole}
 use Rattle.history.proofs.Stays.{stays-good}
 use Rattle.history.proofs.Acts.{acts-waits, acts-exact}
-use Rattle.history.proofs.Ledger.{calls-act, few-wait, waiting-count}
+use Rattle.history.proofs.Ledger.{calls-act, ledger-from, few-wait, waiting-count}
 
 module _ (chip : Chip) (calls : List Call) (whole : Whole (chip .0)) (good : goodState (chip .0) ≡ true) (k : ℕ) (waits : k < chip .0 .queue .waiting) where
   -- it stands in the list of those that wait
@@ -43,3 +44,10 @@ pub fresh-within-64 : (store : List ℕ) (before calls : List Call) (k : ℕ) �
     k < chip .0 .queue .waiting → 64 ≤ length (blanked chip calls) → getD (blanked chip calls) k [] ≡ getD (waitingIn (chip .0 .queue)) k zeroSlot ∷ []
 fresh-within-64 store before calls k waits =
     within-64 (end (fresh, store) before) calls (stays-whole (fresh, store) before fresh-whole) (stays-good (fresh, store) before fresh-whole fresh-good) k waits
+
+-- an accepted colour write stands behind all that waited, so with n waiting it is the one with n before it
+pub accepted-stands : (chip : Chip) (address value : ℕ) (taken : Waiting) → Whole (chip .0) → accepts chip (write address value) ≡ taken ∷ []
+    → waitingIn (after chip (write address value) .0 .queue) ≡ waitingIn (chip .0 .queue) ++ (taken ∷ [])
+unfolding end accepted blanks blanked
+accepted-stands chip address value taken whole is =
+    sym (ap (λ (writes : List Waiting). waitingIn (chip .0 .queue) ++ writes) (sym (append-nil _ ∙ is)) ∙ ledger-from chip (write address value ∷ []) whole)

@@ -10,18 +10,18 @@ use lib.ListN.{length, length-append}
 use Rattle.registers.specs.declared.Block.{Block}
 use Rattle.registers.specs.declared.Block.the-variants.{Control, WindowEntries, ColourMap, GammaMap, CursorGlyph, CursorColours}
 use Rattle.registers.specs.declared.Named.the-variants.{Is}
-use Rattle.queue.specs.Queue.{waitingIn, full, oldest, popped}
+use Rattle.queue.specs.Queue.{waitingIn, full, oldest, popped, Sized}
 use Rattle.queue.specs.declared.Waiting.{Waiting}
 use Rattle.queue.specs.declared.Queue.{Queue}
-use Rattle.queue.proofs.Order.{Sized, waiting-pushed, waiting-popped, waiting-front, length-waiting}
+use Rattle.queue.proofs.Order.{waiting-pushed, waiting-popped, waiting-front, length-waiting}
 use Rattle.queue.proofs.Rule as rule
-use Rattle.chip.specs.State.{fresh, goodState}
+use Rattle.chip.specs.State.{fresh, goodState, Whole}
 use Rattle.chip.specs.Call.{Chip}
 use Rattle.chip.specs.Write.{waitsIn, putIn}
 use Rattle.chip.specs.Dot.{signalsOf, drains, afterDot}
 use Rattle.history.specs.Calls.{Call, end}
 use Rattle.history.specs.Ledger.{colourWrite, accepted, front, blanked, applied, met}
-use Rattle.chip.proofs.Good.{Whole, good-says, not-full, fresh-whole, fresh-good}
+use Rattle.chip.proofs.Good.{good-says, not-full, fresh-whole, fresh-good}
 use Rattle.chip.proofs.Fit.{fit-says}
 use Rattle.history.proofs.Calls.{Law, law-calls, stays-whole}
 use Rattle.history.proofs.Stays.{stays-good}

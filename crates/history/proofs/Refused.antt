@@ -1,13 +1,13 @@
 -- A refused call: it leaves all as it was, and a state that keeps its rule is not refused by 11. Assumes nothing.
 use Prim.Native.Nat.{ℕ}
-use mathlib.Core.Path.{_≡_, refl, ap, _∙_}
+use mathlib.Core.Path.{_≡_, refl, ap, subst, _∙_}
 use mathlib.Core.Bool.{Bool, true, false, false≢true, cond}
 use mathlib.Core.List.{List, [], _∷_, _++_}
 use native.Mathlib.Omega.{arith}
 use lib.ListN.{length}
 use Rattle.rules.specs.Rule.{refused}
-use Rattle.rules.specs.Faults.{Numbered, Fault, unless}
-use Rattle.rules.proofs.Faults.{refused-first, refused-leaves}
+use Rattle.rules.specs.Faults.{Numbered, Fault, First, unless}
+use Rattle.rules.proofs.Faults.{first-holds, refused-first}
 use Rattle.registers.specs.Named.{placeOf, named}
 use Rattle.registers.specs.declared.Named.{Named}
 use Rattle.registers.specs.declared.Named.the-variants.{Is, Nothing}
@@ -17,26 +17,37 @@ use Rattle.chip.specs.Write.{registerFaults, writeFaults, putNamed, written}
 use Rattle.chip.specs.Read.{shownNamed, nameFaults, readFaults, readBack}
 use Rattle.chip.specs.Dot.{signalsOf, afterDot, dotted}
 use Rattle.chip.specs.Dots.{afterDots, lastReport, ran}
-use Rattle.history.specs.Calls.{Call, write, read, dot, dots, line, after}
+use Rattle.history.specs.Calls.{Call, write, read, dot, dots, line, after, faultsOf, RefusedBy}
 
--- a call is refused so; of a line nothing is said here
-abbrev pub RefusedBy : Chip → Call → Numbered → Type 0
-RefusedBy chip (write address value) refusal = written chip address value .1 ≡ refused refusal
-RefusedBy chip (read address) refusal = readBack chip address .1 ≡ refused refusal
-RefusedBy chip dot refusal = dotted chip .1 ≡ refused refusal
-RefusedBy chip (dots count) refusal = ran chip count .1 ≡ refused refusal
-RefusedBy chip line refusal = ⊥
+-- a call is refused exactly by the first of its faults that holds
+pub refused-exactly : (chip : Chip) (call : Call) (refusal : Numbered) → RefusedBy chip call refusal → First (faultsOf chip call) refusal
+unfolding written readBack dotted ran
+refused-exactly chip (write address value) refusal e = refused-first chip (putNamed chip (named address) value, tt) (writeFaults chip address value) refusal e
+refused-exactly chip (read address) refusal e = refused-first chip (chip, shownNamed chip (named address)) (readFaults chip address) refusal e
+refused-exactly chip dot refusal e = refused-first chip (afterDot chip, signalsOf (chip .0)) (callFaults (chip .0) (length (chip .1))) refusal e
+refused-exactly chip (dots count) refusal e = refused-first chip (afterDots count chip, lastReport count chip) (callFaults (chip .0) (length (chip .1))) refusal e
+refused-exactly chip line refusal e = absurd e
 
--- a refused call leaves all as it was
-pub refused-same : (chip : Chip) (call : Call) (refusal : Numbered) → RefusedBy chip call refusal → after chip call ≡ chip
+-- and by that one it is refused, all left as it was
+pub exactly-refused : (chip : Chip) (call : Call) (refusal : Numbered) → (call ≡ line → ⊥) → First (faultsOf chip call) refusal
+    → RefusedBy chip call refusal × (after chip call ≡ chip)
 unfolding after written readBack dotted ran
-refused-same chip (write address value) refusal e =
-    refused-leaves chip (putNamed chip (named address) value, tt) (writeFaults chip address value) refusal e
-refused-same chip (read address) refusal e = refused-leaves chip (chip, shownNamed chip (named address)) (readFaults chip address) refusal e
-refused-same chip dot refusal e = refused-leaves chip (afterDot chip, signalsOf (chip .0)) (callFaults (chip .0) (length (chip .1))) refusal e
-refused-same chip (dots count) refusal e =
-    refused-leaves chip (afterDots count chip, lastReport count chip) (callFaults (chip .0) (length (chip .1))) refusal e
-refused-same chip line refusal e = absurd e
+exactly-refused chip (write address value) refusal real f =
+    let e = first-holds chip (putNamed chip (named address) value, tt) (writeFaults chip address value) refusal f in (ap (λ all. all .1) e, ap (λ all. all .0) e)
+exactly-refused chip (read address) refusal real f =
+    let e = first-holds chip (chip, shownNamed chip (named address)) (readFaults chip address) refusal f in (ap (λ all. all .1) e, ap (λ all. all .0) e)
+exactly-refused chip dot refusal real f =
+    let e = first-holds chip (afterDot chip, signalsOf (chip .0)) (callFaults (chip .0) (length (chip .1))) refusal f in (ap (λ all. all .1) e, ap (λ all. all .0) e)
+exactly-refused chip (dots count) refusal real f =
+    let e = first-holds chip (afterDots count chip, lastReport count chip) (callFaults (chip .0) (length (chip .1))) refusal f in (ap (λ all. all .1) e, ap (λ all. all .0) e)
+exactly-refused chip line refusal real f = absurd (real refl)
+
+-- so a refused call leaves all as it was
+pub refused-same : (chip : Chip) (call : Call) (refusal : Numbered) → RefusedBy chip call refusal → after chip call ≡ chip
+refused-same chip call refusal e = exactly-refused chip call refusal (real call e) (refused-exactly chip call refusal e) .1
+  where
+    real : (call : Call) → RefusedBy chip call refusal → call ≡ line → ⊥
+    real call e same = subst (λ (call : Call). RefusedBy chip call refusal) same e
 
 -- a call that does nothing leaves all as it was, refused or not
 unless-same : {Memory Answer : Type 0} (before : Memory) (answer : Answer) (faults : List Fault) → unless faults before (before, answer) .0 ≡ before

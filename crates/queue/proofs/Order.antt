@@ -8,13 +8,9 @@ use native.Mathlib.Omega.{arith}
 use borrow.Author.Tests.{lt-leb}
 use lib.ListN.{length, getD, set, take, drop, length-set, length-append, length-drop}
 use lib.Seq.{take-suc-set}
-use Rattle.queue.specs.Queue.{zeroSlot, waitingIn, full, oldest, pushed, popped}
+use Rattle.queue.specs.Queue.{zeroSlot, Sized, waitingIn, full, oldest, pushed, popped}
 use Rattle.queue.specs.declared.Waiting.{Waiting}
 use Rattle.queue.specs.declared.Queue.{Queue}
-
--- the queue's array is one of 64
-abbrev pub Sized : Queue → Type 0
-Sized queue = length (queue .slots) ≡ 64
 
 module _ (queue : Queue) (write : Waiting) (more : queue .waiting < 64) where
   -- where there is room, a write takes the next slot

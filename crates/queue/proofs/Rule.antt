@@ -8,12 +8,15 @@ use native.Mathlib.Omega.{arith}
 use borrow.Author.Tests.{ltb-true, leb-true, lt-ltb, le-leb}
 use lib.ListN.{length, getD, drop, length-take, drop-of-length-le}
 use lib.Seq.{drop-cons, getD-take}
+use Rattle.registers.specs.Blocks.{count}
+use Rattle.registers.specs.Kept.{fits}
+use Rattle.registers.specs.declared.Block.the-variants.{ColourMap}
 use Rattle.queue.specs.Waiting.{goodWrite}
-use Rattle.queue.specs.Queue.{waitingIn, oldest, pushed, popped}
+use Rattle.queue.specs.Queue.{waitingIn, oldest, pushed, popped, Sized}
 use Rattle.queue.specs.Good.{allGood, goodQueue}
 use Rattle.queue.specs.declared.Waiting.{Waiting}
 use Rattle.queue.specs.declared.Queue.{Queue}
-use Rattle.queue.proofs.Order.{Sized, pushed-is, waiting-pushed, waiting-popped, waiting-front}
+use Rattle.queue.proofs.Order.{pushed-is, waiting-pushed, waiting-popped, waiting-front}
 
 -- of two tests that hold together, each
 pub both : (a b : Bool) → (a && b) ≡ true → (a ≡ true) × (b ≡ true)
@@ -51,14 +54,16 @@ pub says-good : (queue : Queue) → queue .waiting ≤ 64 → allGood (waitingIn
 unfolding goodQueue
 says-good queue few good = rw (le-leb _ _ few) good
 
--- a good write goes to a colour entry, in 24 bits
-pub write-says : (write : Waiting) → goodWrite write ≡ true → (write .entry < 4608) × (write .colour < 2 ^ 24)
+-- a good write goes to a colour entry, with no bits but those that it keeps
+pub write-says : (write : Waiting) → goodWrite write ≡ true
+    → (write .entry < count ColourMap) × (fits (record { block = ColourMap; word = write .entry }) (write .colour) ≡ true)
 unfolding goodWrite
-write-says write good = let e = both _ _ good in (ltb-true _ _ (e .0), ltb-true _ _ (e .1))
+write-says write good = let e = both _ _ good in (ltb-true _ _ (e .0), e .1)
 
-pub says-write : (write : Waiting) → write .entry < 4608 → write .colour < 2 ^ 24 → goodWrite write ≡ true
+-- and that is all that it asks
+pub says-write : (write : Waiting) → write .entry < count ColourMap → fits (record { block = ColourMap; word = write .entry }) (write .colour) ≡ true → goodWrite write ≡ true
 unfolding goodWrite
-says-write write h l = rw (lt-ltb _ _ h) (lt-ltb _ _ l)
+says-write write here fine = rw (lt-ltb _ _ here) fine
 
 -- ---- that the rule is kept
 

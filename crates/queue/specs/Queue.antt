@@ -1,9 +1,10 @@
 -- The queue: of 64 slots the first ones hold the colour writes that wait, the oldest in slot 0.
 use Prim.Native.Nat.{ℕ, _+_, _-_}
+use mathlib.Core.Path.{_≡_}
 use mathlib.Core.Bool.{Bool, cond}
 use mathlib.Core.List.{List, [], _∷_, _++_}
 use lib.Dec.{leb}
-use lib.ListN.{getD, set, take, drop, replicate}
+use lib.ListN.{length, getD, set, take, drop, replicate}
 use Rattle.queue.specs.declared.Waiting.{Waiting}
 use Rattle.queue.specs.declared.Queue.{Queue}
 
@@ -14,6 +15,10 @@ depth = 64
 -- what a slot holds that never held a write
 abbrev pub zeroSlot : Waiting
 zeroSlot = record { entry = 0; colour = 0 }
+
+-- there are 64 slots: the array of the code has them, where a definition sees a list
+abbrev pub Sized : Queue → Type 0
+Sized queue = length (queue .slots) ≡ depth
 
 -- nothing waits, and every slot is zero
 abbrev pub empty : Queue
@@ -27,7 +32,7 @@ waitingIn queue = take (queue .waiting) (queue .slots)
 abbrev pub room : Queue → ℕ
 room queue = depth - queue .waiting
 
--- 64 wait
+-- 64 wait, or in a bad state more
 unfoldable pub full : Queue → Bool
 full queue = leb depth (queue .waiting)
 

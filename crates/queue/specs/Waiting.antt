@@ -1,9 +1,11 @@
 -- When a colour write may wait.
-use Prim.Native.Nat.{_^_}
 use mathlib.Core.Bool.{Bool, _&&_}
 use lib.Dec.{ltb}
+use Rattle.registers.specs.Blocks.{count}
+use Rattle.registers.specs.Kept.{fits}
+use Rattle.registers.specs.declared.Block.the-variants.{ColourMap}
 use Rattle.queue.specs.declared.Waiting.{Waiting}
 
--- a write to a colour entry, of at most 24 bits
+-- a write to a colour entry, with no bits but those that the entry keeps
 unfoldable pub goodWrite : Waiting → Bool
-goodWrite write = ltb (write .entry) 4608 && ltb (write .colour) (2 ^ 24)
+goodWrite write = ltb (write .entry) (count ColourMap) && fits (record { block = ColourMap; word = write .entry }) (write .colour)

@@ -3,6 +3,7 @@ use Prim.Native.Nat.{ℕ}
 use mathlib.Core.Path.{_≡_}
 use mathlib.Core.Bool.{Bool, true, false, cond}
 use mathlib.Core.List.{List, [], _∷_, _++_}
+use lib.ListN.{getD}
 use Rattle.rules.specs.Rule.{Outcome, ok, refused}
 
 -- a refusal as the paper gives it: its number, and its values, of which the place is the first
@@ -30,9 +31,9 @@ pub record First (faults : List Fault) (refusal : Numbered) : Type 0 where
   pub holds : found .holds ≡ true
   pub is : found .refusal ≡ refusal
 
--- `fault number place test`: refused by that number at that place where the test holds
-abbrev pub fault : ℕ → ℕ → Bool → Fault
-fault number place holds = record { holds = holds; refusal = record { number = number; values = place ∷ [] } }
+-- the place of a refusal: the first of its values
+abbrev pub placeIn : Numbered → ℕ
+placeIn refusal = getD (refusal .values) 0 0
 
 module _ {Memory Answer : Type 0} where
   -- what a call leaves and answers: at the first fault that holds all is left as it was, with its refusal; where none holds, what the call does

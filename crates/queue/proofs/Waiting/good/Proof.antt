@@ -1,5 +1,7 @@
 -- `queue::Waiting::good` meets its contract: both tests, one after the other. Assumes nothing.
+use mathlib.Core.Path.{sym}
 use borrow.Author.Tests.{lt-ltb, le-ltb}
+use Rattle.registers.proofs.Kept.{colour-fits}
 use Rattle.queue.specs.Waiting.{goodWrite}
 use Rattle.queue.proofs.Waiting.good.Statement.{statement}
 use Rattle.queue.proofs.Waiting.good.Tie as tie
@@ -8,7 +10,9 @@ ruleset tests = (lt-ltb, le-ltb)
 
 returns : tie.Need-returns
 unfolding goodWrite
-returns c = search tests
+returns c =
+    let a = c .before .before .before .args in
+    simp (lt-ltb _ _ (c .before .if1 .taken)) (sym (colour-fits (a .self .entry) (a .self .colour)))
 
 returns-2 : tie.Need-returns-2
 unfolding goodWrite

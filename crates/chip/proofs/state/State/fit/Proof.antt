@@ -3,7 +3,7 @@ use mathlib.Core.Path.{refl}
 use native.Mathlib.Omega.{arith}
 use borrow.Author.Needs.{needs}
 use borrow.Author.Tests.{eq-eqb, ne-eqb, not-true, not-false}
-use Rattle.chip.specs.Call.{fit}
+use Rattle.chip.specs.Inner.{fit}
 use Rattle.chip.proofs.state.State.fit.Statement.{statement}
 use Rattle.chip.proofs.state.State.fit.Tie as tie
 

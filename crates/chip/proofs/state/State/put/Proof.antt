@@ -9,7 +9,7 @@ use Rattle.registers.specs.Store.{storeLength}
 use Rattle.registers.proofs.Store.{store-below}
 use Rattle.chip.specs.Write.{putIn}
 use Rattle.chip.specs.declared.state.State.{State}
-use Rattle.chip.proofs.Blocks.{elsewhere-put, neither-stored}
+use Rattle.chip.proofs.Blocks.{neither-waits, stored-put}
 use Rattle.chip.proofs.state.State.put.Statement.{statement}
 use Rattle.chip.proofs.state.State.put.Tie as tie
 
@@ -17,7 +17,7 @@ use Rattle.chip.proofs.state.State.put.Tie as tie
 below : (c : tie.After-store-index) → c .store-index .result < storeLength
 below c =
     let s = c .before .before .before in
-    rw (c .store-index .ensures) (store-below (s .args .register) (neither-stored (s .args .register .block) (c .before .match .keys3)) (s .pre .1))
+    rw (c .store-index .ensures) (store-below (s .args .register) (neither-waits (s .args .register .block) (c .before .match .keys3) .0) (s .pre .1))
 
 enum-told : tie.Need-enum-told
 enum-told c = search needs
@@ -61,7 +61,7 @@ same-length c = search needs
 returns-3 : tie.Need-returns-3
 returns-3 c =
     let s = c .before .before .before .args in
-    rw (c .store-index .ensures) (sym (elsewhere-put (s .self, s .store .now) (s .register) (s .register .block) (s .value) (c .before .match .keys3)))
+    rw (c .store-index .ensures) (let there = neither-waits (s .register .block) (c .before .match .keys3) in sym (stored-put (s .self, s .store .now) (s .register) (s .register .block) (s .value) (there .0) (there .1)))
 
 pub put-spec : {M : Type 1} → statement M
 put-spec =

@@ -7,7 +7,7 @@ use Rattle.registers.specs.declared.Block.{Block}
 use Rattle.registers.specs.Store.{storeLength}
 use Rattle.registers.proofs.Store.{store-below}
 use Rattle.chip.specs.Read.{shownIn}
-use Rattle.chip.proofs.Blocks.{elsewhere-stored, elsewhere-shown}
+use Rattle.chip.proofs.Blocks.{elsewhere-stored, stored-shown}
 use Rattle.chip.proofs.state.State.shown.Statement.{statement}
 use Rattle.chip.proofs.state.State.shown.Tie as tie
 
@@ -46,7 +46,7 @@ returns-2 : tie.Need-returns-2
 returns-2 c =
     let i = c .before .before in
     let s = i .before .before .before .args in
-    rw (c .kept .ensures, i .store-index .ensures) (sym (elsewhere-shown (s .self, s .store .now) (s .register) (s .register .block) (i .before .match .keys2)))
+    rw (c .kept .ensures, i .store-index .ensures) (sym (stored-shown (s .self, s .store .now) (s .register) (s .register .block) (elsewhere-stored (s .register .block) (i .before .match .keys2))))
 
 pub shown-spec : {M : Type 1} → statement M
 shown-spec =

@@ -6,6 +6,7 @@ use mathlib.Core.List.{List}
 use borrow.Author.Needs.{needs}
 use borrow.Author.Tests.{not-true, not-false}
 use lib.ListN.{length}
+use Rattle.chip.specs.Inner.{fit}
 use Rattle.rules.specs.Rule.{Outcome, ok, refused}
 use Rattle.rules.specs.Faults.{Numbered}
 use Rattle.registers.specs.Named.{named}
@@ -13,7 +14,7 @@ use Rattle.registers.specs.Kept.{fits}
 use Rattle.registers.specs.declared.Named.the-variants.{Is}
 use Rattle.registers.proofs.Naming.{named-word}
 use Rattle.chip.specs.Refusal.{numbered}
-use Rattle.chip.specs.Call.{Chip, fit}
+use Rattle.chip.specs.Call.{Chip}
 use Rattle.chip.specs.Write.{readOnly, told}
 use Rattle.chip.specs.declared.refusal.Refusal.{Refusal}
 use Rattle.chip.specs.declared.refusal.Refusal.the-variants.{NoRegister, ReadOnly, StrayBits, QueueFull}
