@@ -1,7 +1,7 @@
 -- Runs of dots that only move the position, and what is left of a run. Assumes nothing.
 use Prim.Native.Nat.{ℕ, zero, suc, _+_, _-_, _<_}
 use mathlib.Core.Path.{_≡_, refl, ap, sym, _∙_}
-use mathlib.Core.Bool.{Bool, true, false, cond, _&&_}
+use mathlib.Core.Bool.{Bool, true, false, _&&_}
 use mathlib.Core.List.{List, []}
 use native.Mathlib.Omega.{arith}
 use borrow.Author.Tests.{ltb-true, le-ltb}
@@ -9,8 +9,7 @@ use lib.Dec.{ltb}
 use lib.ListN.{length, set}
 use Rattle.chip.specs.Inner.{fit, Leapt}
 use Rattle.rules.specs.Rule.{ok, refused}
-use Rattle.timing.specs.Signals.{signalsAt}
-use Rattle.timing.specs.Move.{nextPosition, positionAfter}
+use Rattle.timing.specs.Move.{positionAfter}
 use Rattle.timing.specs.Walk.{walked}
 use Rattle.timing.specs.declared.Position.{Position}
 use Rattle.timing.specs.declared.Walk.{Walk}

@@ -1,6 +1,6 @@
 -- What a read shows: the room in the queue, and of every other block the stored word, whatever waits. Assumes nothing.
 use Prim.Native.Nat.{ℕ, _+_, _-_, _*_, _^_}
-use mathlib.Core.Path.{_≡_, refl, ap, sym, _∙_}
+use mathlib.Core.Path.{_≡_, ap, sym, _∙_}
 use mathlib.Core.Bool.{true}
 use mathlib.Core.List.{List}
 use native.Mathlib.Omega.{arith}
@@ -9,14 +9,13 @@ use Rattle.rules.specs.Rule.{ok}
 use Rattle.words.specs.Field.{field}
 use Rattle.registers.specs.Named.{named}
 use Rattle.registers.specs.Store.{inStore, storeLength}
-use Rattle.registers.specs.declared.Block.{Block}
-use Rattle.registers.specs.declared.Block.the-variants.{Control, WindowEntries, ColourMap, GammaMap, CursorGlyph, CursorColours}
+use Rattle.registers.specs.declared.Block.the-variants.{Control}
 use Rattle.registers.specs.declared.Register.{Register}
 use Rattle.registers.specs.declared.Named.the-variants.{Is}
 use Rattle.registers.proofs.Naming.{named-room, named-position}
 use Rattle.chip.specs.State.{goodState}
 use Rattle.chip.specs.Call.{Chip}
-use Rattle.chip.specs.Read.{shownOfControl, stored, shownIn, shown, readBack}
+use Rattle.chip.specs.Read.{shownOfControl, stored, shown, readBack}
 use Rattle.chip.specs.declared.state.State.{State}
 use Rattle.chip.proofs.Blocks.{stored-shown}
 use Rattle.chip.proofs.Good.{good-says}

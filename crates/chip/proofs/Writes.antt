@@ -1,7 +1,7 @@
 -- What a write comes to, case by case in the order of its faults. Assumes nothing.
 use Prim.Native.Nat.{ℕ}
-use mathlib.Core.Path.{_≡_, refl, ap, sym, _∙_}
-use mathlib.Core.Bool.{Bool, true, false}
+use mathlib.Core.Path.{_≡_, refl, ap, _∙_}
+use mathlib.Core.Bool.{true, false}
 use lib.ListN.{length}
 use Rattle.chip.specs.Inner.{fit}
 use Rattle.rules.specs.Rule.{ok, refused}

@@ -1,10 +1,10 @@
 -- A map entry holds the colour of the last write applied to it, or what it held before. Assumes nothing.
-use Prim.Native.Nat.{ℕ, _+_, _<_}
+use Prim.Native.Nat.{ℕ, zero, suc, _+_, _<_}
 use mathlib.Core.Path.{_≡_, refl, ap, sym, _∙_}
 use mathlib.Core.Bool.{Bool, true, false, cond, _&&_}
 use mathlib.Core.List.{List, [], _∷_, _++_, append-assoc}
 use native.Mathlib.Omega.{arith}
-use borrow.Author.Tests.{eqb-true, eqb-false}
+use borrow.Author.Tests.{eqb-true, eqb-false, eq-eqb}
 use lib.Dec.{ltb, eqb}
 use lib.ListN.{length, getD, set}
 use lib.Seq.{getD-set-same, getD-set-other}
@@ -38,6 +38,16 @@ module _ (entry : ℕ) where
   latest-then : (writes others : List Waiting) (held : ℕ) → latest entry (writes ++ others) held ≡ latest entry others (latest entry writes held)
   latest-then [] others held = refl
   latest-then (next ∷ writes) others held = latest-then writes others (cond (eqb (next .entry) entry) (next .colour) held)
+
+  -- where the last of some lists is one write to the entry, its colour is what the entry holds after all of them
+  pub latest-last : (dark : List (List Waiting)) (k : ℕ) (last : Waiting) (held : ℕ) → length dark ≡ suc k → getD dark k [] ≡ last ∷ [] → last .entry ≡ entry
+      → latest entry (joined dark) held ≡ last .colour
+  latest-last [] k last held size is same = absurd (omega arith)
+  latest-last (some ∷ []) zero last held size is same = rw (is, eq-eqb (last .entry) entry same) refl
+  latest-last (some ∷ []) (suc k) last held size is same = absurd (omega arith)
+  latest-last (some ∷ next ∷ dark) zero last held size is same = absurd (omega arith)
+  latest-last (some ∷ next ∷ dark) (suc k) last held size is same =
+      latest-then some (joined (next ∷ dark)) held ∙ latest-last (next ∷ dark) k last (latest entry some held) (omega arith) is same
 
   -- what the map entry holds in a store
   abbrev held-in : List ℕ → ℕ

@@ -1,6 +1,6 @@
 -- The moment of a colour write: the one with k before it in the queue is applied at exactly the blanked dot that has k before it, so within 64. Assumes nothing.
-use Prim.Native.Nat.{ℕ, _-_, _≤_, _<_}
-use mathlib.Core.Path.{_≡_, sym, ap, _∙_}
+use Prim.Native.Nat.{ℕ, suc, _-_, _≤_, _<_}
+use mathlib.Core.Path.{_≡_, refl, sym, ap, _∙_}
 use mathlib.Core.Bool.{true}
 use mathlib.Core.List.{List, [], _∷_, _++_, append-nil}
 use native.Mathlib.Omega.{arith}
@@ -9,12 +9,16 @@ use Rattle.queue.specs.Queue.{zeroSlot, waitingIn}
 use Rattle.chip.specs.State.{fresh, goodState, Whole}
 use Rattle.queue.specs.declared.Waiting.{Waiting}
 use Rattle.chip.specs.Call.{Chip}
+use Rattle.chip.specs.Dot.{target}
 use Rattle.history.specs.Calls.{Call, write, after, end}
 use Rattle.history.specs.Ledger.{accepts, accepted, blanks, blanked}
-use Rattle.chip.proofs.Good.{fresh-whole, fresh-good}
+use Rattle.chip.proofs.Good.{good-says, fresh-whole, fresh-good}
+use Rattle.queue.proofs.Rule as rule
+use Rattle.queue.proofs.Rule.{good-each, write-says}
 use Rattle.history.proofs.Calls.{stays-whole}
 use Rattle.history.proofs.Stays.{stays-good}
 use Rattle.history.proofs.Acts.{acts-waits, acts-exact}
+use Rattle.history.proofs.Entries.{latest-last, map-entry}
 use Rattle.history.proofs.Ledger.{calls-act, ledger-from, few-wait, waiting-count}
 
 module _ (chip : Chip) (calls : List Call) (whole : Whole (chip .0)) (good : goodState (chip .0) ≡ true) (k : ℕ) (waits : k < chip .0 .queue .waiting) where
@@ -38,6 +42,15 @@ module _ (chip : Chip) (calls : List Call) (whole : Whole (chip .0)) (good : goo
   pub within-64 : 64 ≤ length (blanked chip calls) → getD (blanked chip calls) k [] ≡ getD (waitingIn (chip .0 .queue)) k zeroSlot ∷ []
   unfolding end
   within-64 enough = exact-dot .1 (omega (arith, few-wait chip [] whole good))
+
+  -- right after its own dot, its entry of the map holds its colour
+  pub lands : length (blanked chip calls) ≡ suc k
+      → getD (end chip calls .1) (target (getD (waitingIn (chip .0 .queue)) k zeroSlot)) 0 ≡ getD (waitingIn (chip .0 .queue)) k zeroSlot .colour
+  lands last =
+      let own = getD (waitingIn (chip .0 .queue)) k zeroSlot in
+      let fine = good-each (waitingIn (chip .0 .queue)) k (rule.good-says (chip .0 .queue) (good-says (chip .0) good .3) .1) stands in
+      map-entry (own .entry) (write-says own fine .0) chip calls whole
+      ∙ latest-last (own .entry) (blanked chip calls) k own (getD (chip .1) (target own) 0) last (exact-dot .1 (omega arith)) refl
 
 -- from a fresh state: whatever was called, what then waits is applied within the next 64 blanked dots
 pub fresh-within-64 : (store : List ℕ) (before calls : List Call) (k : ℕ) → let chip : Chip = end (fresh, store) before in

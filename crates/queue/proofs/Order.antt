@@ -1,12 +1,11 @@
 -- The queue as a list, the oldest write first: a write joins at its end, and the oldest leaves from its front. Assumes nothing.
 use Prim.Native.Nat.{ℕ, zero, suc, _+_, _-_, _≤_, _<_}
-use mathlib.Core.Path.{_≡_, refl, ap, sym, _∙_}
-use mathlib.Core.Bool.{false}
+use mathlib.Core.Path.{_≡_, refl, ap, _∙_}
 use mathlib.Core.List.{List, [], _∷_, _++_}
 use native.Mathlib.Numerals.{add-one}
 use native.Mathlib.Omega.{arith}
 use borrow.Author.Tests.{lt-leb}
-use lib.ListN.{length, getD, set, take, drop, length-set, length-append, length-drop}
+use lib.ListN.{length, getD, set, take, drop, length-set, length-append}
 use lib.Seq.{take-suc-set}
 use Rattle.queue.specs.Queue.{zeroSlot, Sized, waitingIn, full, oldest, pushed, popped}
 use Rattle.queue.specs.declared.Waiting.{Waiting}

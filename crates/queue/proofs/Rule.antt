@@ -1,5 +1,5 @@
 -- The queue's part of the state's rule: the loop that tests it, what it says, and that calls keep it. Assumes nothing.
-use Prim.Native.Nat.{ℕ, _+_, _-_, _^_, _≤_, _<_}
+use Prim.Native.Nat.{ℕ, zero, suc, _+_, _-_, _≤_, _<_}
 use mathlib.Core.Path.{_≡_, refl, ap, sym, _∙_}
 use mathlib.Core.Bool.{Bool, true, false, false≢true, _&&_}
 use mathlib.Core.List.{List, [], _∷_, _++_}
@@ -12,7 +12,7 @@ use Rattle.registers.specs.Blocks.{count}
 use Rattle.registers.specs.Kept.{fits}
 use Rattle.registers.specs.declared.Block.the-variants.{ColourMap}
 use Rattle.queue.specs.Waiting.{goodWrite}
-use Rattle.queue.specs.Queue.{waitingIn, oldest, pushed, popped, Sized}
+use Rattle.queue.specs.Queue.{zeroSlot, waitingIn, oldest, pushed, popped, Sized}
 use Rattle.queue.specs.Good.{allGood, goodQueue}
 use Rattle.queue.specs.declared.Waiting.{Waiting}
 use Rattle.queue.specs.declared.Queue.{Queue}
@@ -64,6 +64,12 @@ write-says write good = let e = both _ _ good in (ltb-true _ _ (e .0), e .1)
 pub says-write : (write : Waiting) → write .entry < count ColourMap → fits (record { block = ColourMap; word = write .entry }) (write .colour) ≡ true → goodWrite write ≡ true
 unfolding goodWrite
 says-write write here fine = rw (lt-ltb _ _ here) fine
+
+-- each of some good writes is good
+pub good-each : (writes : List Waiting) (k : ℕ) → allGood writes ≡ true → k < length writes → goodWrite (getD writes k zeroSlot) ≡ true
+good-each [] k good here = absurd (omega arith)
+good-each (first ∷ writes) zero good here = both (goodWrite first) (allGood writes) good .0
+good-each (first ∷ writes) (suc k) good here = good-each writes k (both (goodWrite first) (allGood writes) good .1) (omega arith)
 
 -- ---- that the rule is kept
 

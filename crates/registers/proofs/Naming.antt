@@ -5,7 +5,7 @@ use mathlib.Core.Bool.{Bool, true, false, cond}
 use mathlib.Core.List.{List, [], _∷_}
 use mathlib.Core.Logic.{⊎-elim}
 use native.Mathlib.Omega.{arith}
-use borrow.Author.Tests.{eq-eqb, ne-eqb}
+use borrow.Author.Tests.{eqb-true, eq-eqb, ne-eqb}
 use lib.Dec.{eqb}
 use Rattle.rules.proofs.Cases.{impossible, le-or-lt}
 use Rattle.registers.specs.Blocks.{blocks, start, count}
@@ -14,7 +14,7 @@ use Rattle.registers.specs.declared.Block.{Block}
 use Rattle.registers.specs.declared.Block.the-variants.{Control, WindowEntries, ColourMap, GammaMap, CursorGlyph, CursorColours}
 use Rattle.registers.specs.declared.Register.{Register}
 use Rattle.registers.specs.declared.Named.the-variants.{Is, Nothing}
-use Rattle.registers.proofs.Blocks.{past-end, within, Until, alone}
+use Rattle.registers.proofs.Blocks.{before-start, past-end, within, Until, alone}
 
 module _ (address place : ℕ) (same : place ≡ placeOf address) where
   -- an address that is no multiple of 4 names nothing
@@ -90,4 +90,40 @@ named-word address register e = by (eqb (placeOf address % 4) 0) refl
   where
     by : (test : Bool) → eqb (placeOf address % 4) 0 ≡ test → register .word < count (register .block)
     by true is = among-word (placeOf address) register blocks (rw is at e)
+    by false is = let wrong : Nothing ≡ Is register = rw is at e in impossible (cc)
+
+-- ---- where a register stands
+
+-- a block starts at a multiple of 4
+start-aligned : (block : Block) → start block % 4 ≡ 0
+start-aligned Control = refl
+start-aligned WindowEntries = refl
+start-aligned ColourMap = refl
+start-aligned GammaMap = refl
+start-aligned CursorGlyph = refl
+start-aligned CursorColours = refl
+
+-- a word that stands at a place stands four times its number behind its block's start
+stands-at : (block : Block) (place : ℕ) → place % 4 ≡ 0 → isWordOf block place ≡ true → place ≡ start block + 4 * wordAt block place
+stands-at block place aligned is =
+    ⊎-elim (λ from. omega (arith, start-aligned block, from)) (λ before. impossible (cc (before-start block place before))) (le-or-lt (start block) place)
+
+module _ (place : ℕ) (register : Register) (aligned : place % 4 ≡ 0) where
+  -- so the register that a place is in some blocks
+  among-place : (some : List Block) → among some place ≡ Is register → place ≡ start (register .block) + 4 * register .word
+  among-place [] e = impossible (cc)
+  among-place (block ∷ others) e = by (isWordOf block place) refl (among-place others)
+    where
+      by : (test : Bool) → isWordOf block place ≡ test → (among others place ≡ Is register → place ≡ start (register .block) + 4 * register .word)
+          → place ≡ start (register .block) + 4 * register .word
+      by true is rest = let same : register ≡ record { block = block; word = wordAt block place } = cc in rw same (stands-at block place aligned is)
+      by false is rest = rest (rw is at e)
+
+-- the register that an address names stands at that address, so no two places name one register
+pub named-place : (address : ℕ) (register : Register) → named address ≡ Is register → placeOf address ≡ start (register .block) + 4 * register .word
+unfolding named
+named-place address register e = by (eqb (placeOf address % 4) 0) refl
+  where
+    by : (test : Bool) → eqb (placeOf address % 4) 0 ≡ test → placeOf address ≡ start (register .block) + 4 * register .word
+    by true is = among-place (placeOf address) register (eqb-true (placeOf address % 4) 0 is) blocks (rw is at e)
     by false is = let wrong : Nothing ≡ Is register = rw is at e in impossible (cc)

@@ -1,10 +1,8 @@
 -- The store: it has room for every word of its blocks, and no other word stands on a map entry. Assumes nothing.
 use Prim.Native.Nat.{ℕ, _+_, _≤_, _<_}
 use mathlib.Core.Path.{_≡_, refl}
-use mathlib.Core.Bool.{true, false}
+use mathlib.Core.Bool.{true}
 use native.Mathlib.Omega.{arith}
-use borrow.Author.Tests.{ne-eqb}
-use lib.Dec.{eqb}
 use Rattle.rules.proofs.Cases.{impossible}
 use Rattle.registers.specs.Blocks.{count}
 use Rattle.registers.specs.Store.{inStore, storeStart, storeLength, storeIndex}
@@ -51,7 +49,3 @@ module _ (register : Register) (entry : ℕ) (stored : inStore (register .block)
   -- no word of another block stands on a map entry
   pub map-entry-apart : storeIndex register ≡ storeStart ColourMap + entry → ⊥
   map-entry-apart = index-apart (register .block) (register .word) entry stored other h k
-
-  -- the same, as a test
-  pub map-entry-differs : eqb (storeIndex register) (storeStart ColourMap + entry) ≡ false
-  map-entry-differs = ne-eqb (storeIndex register) (storeStart ColourMap + entry) map-entry-apart

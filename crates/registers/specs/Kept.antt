@@ -11,7 +11,7 @@ use Rattle.registers.specs.declared.Register.{Register}
 abbrev pub only : ℕ → ℕ → ℕ → ℕ
 only value high low = field value high low * 2 ^ low
 
--- of a control word its fields: word 0 has five switches, word 7 two fields of 11 bits, the others two of 12
+-- of a control word its fields: word 0 has five switches, word 7 two fields of 11 bits, the others two of 12; words 9 and 10 are never written
 unfoldable pub keptOfControl : ℕ → ℕ → ℕ
 keptOfControl word value =
     cond (eqb word 0) (only value 4 0)
