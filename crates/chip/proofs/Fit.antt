@@ -6,13 +6,13 @@ use mathlib.Core.List.{List, _++_}
 use borrow.Author.Tests.{eqb-true, eq-eqb}
 use lib.Dec.{eqb}
 use lib.ListN.{length}
-use Rattle.chip.specs.Inner.{fit}
 use Rattle.rules.specs.Rule.{Outcome, refused}
 use Rattle.rules.specs.Faults.{Numbered, Fault, unless}
 use Rattle.registers.specs.Store.{storeLength}
 use Rattle.chip.specs.Refusal.{numbered}
 use Rattle.chip.specs.State.{goodState}
 use Rattle.chip.specs.Call.{Chip, callFaults}
+use Rattle.chip.specs.Inner.{fit}
 use Rattle.chip.specs.declared.refusal.Refusal.{Refusal}
 use Rattle.chip.specs.declared.refusal.Refusal.the-variants.{StoreLength, BadState}
 use Rattle.chip.specs.declared.state.State.{State}

@@ -2,7 +2,6 @@
 use Prim.Native.Nat.{ℕ}
 use mathlib.Core.Path.{_≡_, ap, _∙_}
 use lib.ListN.{length}
-use Rattle.chip.specs.Inner.{fit}
 use Rattle.rules.specs.Rule.{ok, refused}
 use Rattle.rules.specs.Faults.{unless}
 use Rattle.registers.specs.Named.{placeOf, named}
@@ -12,6 +11,7 @@ use Rattle.registers.specs.declared.Named.the-variants.{Is, Nothing}
 use Rattle.chip.specs.Refusal.{numbered}
 use Rattle.chip.specs.Call.{Chip}
 use Rattle.chip.specs.Read.{nameFaults, shown, shownNamed, readBack}
+use Rattle.chip.specs.Inner.{fit}
 use Rattle.chip.specs.declared.refusal.Refusal.{Refusal}
 use Rattle.chip.specs.declared.refusal.Refusal.the-variants.{NoRegister}
 use Rattle.chip.specs.declared.state.Fit.the-variants.{Yes, Refused}

@@ -3,7 +3,6 @@ use Prim.Native.Nat.{ℕ}
 use mathlib.Core.Path.{_≡_, refl, ap, _∙_}
 use mathlib.Core.Bool.{true, false}
 use lib.ListN.{length}
-use Rattle.chip.specs.Inner.{fit}
 use Rattle.rules.specs.Rule.{ok, refused}
 use Rattle.rules.specs.Faults.{unless}
 use Rattle.registers.specs.Named.{placeOf, named}
@@ -14,6 +13,7 @@ use Rattle.registers.specs.declared.Named.the-variants.{Is, Nothing}
 use Rattle.chip.specs.Refusal.{numbered}
 use Rattle.chip.specs.Call.{Chip}
 use Rattle.chip.specs.Write.{readOnly, noRoomFor, registerFaults, put, putNamed, written}
+use Rattle.chip.specs.Inner.{fit}
 use Rattle.chip.specs.declared.refusal.Refusal.{Refusal}
 use Rattle.chip.specs.declared.refusal.Refusal.the-variants.{NoRegister, ReadOnly, StrayBits, QueueFull}
 use Rattle.chip.specs.declared.state.Fit.the-variants.{Yes, Refused}

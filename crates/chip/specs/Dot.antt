@@ -1,4 +1,4 @@
--- One dot: it reports the signals at the position; then, if blanked and the queue isn't empty, the oldest colour write is applied; then it moves.
+-- A dot, in three steps: the signals where the beam is, a waiting colour into the store where they say blank, the beam one position on.
 use Prim.Native.Nat.{ℕ}
 use mathlib.Core.Bool.{Bool, cond, _&&_}
 use lib.Dec.{ltb}

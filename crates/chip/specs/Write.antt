@@ -41,7 +41,7 @@ readOnlyIn CursorColours word = false
 abbrev pub readOnly : Register → Bool
 readOnly register = readOnlyIn (register .block) (register .word)
 
--- colour writes, those to the colour map block only, wait; other writes act at once
+-- only writes to the colour map wait
 abbrev pub waitsIn : Block → Bool
 waitsIn Control = false
 waitsIn WindowEntries = false

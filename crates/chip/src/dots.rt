@@ -1,12 +1,12 @@
 // Many dots at once.
+ghost use Prim.Native.Nat.{_<_};
 ghost use mathlib.Core.Path.{_≡_};
 ghost use mathlib.Core.Bool.{true};
-ghost use Prim.Native.Nat.{_<_};
 ghost use lib.ListN.{length};
-ghost use Rattle.chip.specs.Inner.{Leapt};
 ghost use Rattle.registers.specs.Store.{storeLength};
 ghost use Rattle.chip.specs.State.{goodState, withPosition};
 ghost use Rattle.chip.specs.Dots.{told, afterDots, ran};
+ghost use Rattle.chip.specs.Inner.{Leapt};
 use crate::refusal::Refusal;
 use crate::state::Fit;
 use crate::state::State;

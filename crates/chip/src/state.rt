@@ -1,7 +1,7 @@
 // The state: control words, position and queue, passed by value.
 ghost use mathlib.Core.Path.{_≡_};
-ghost use Rattle.chip.specs.Inner.{fit};
 ghost use Rattle.chip.specs.State.{fresh, goodWords, goodState, windowsOf};
+ghost use Rattle.chip.specs.Inner.{fit};
 use crate::refusal::Refusal;
 use queue::Queue;
 use registers::Block;

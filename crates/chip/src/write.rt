@@ -1,7 +1,7 @@
 // Register writes.
+ghost use Prim.Native.Nat.{_<_};
 ghost use mathlib.Core.Path.{_≡_};
 ghost use mathlib.Core.Bool.{false};
-ghost use Prim.Native.Nat.{_<_};
 ghost use lib.ListN.{length};
 ghost use Rattle.registers.specs.Blocks.{count};
 ghost use Rattle.registers.specs.Store.{storeLength};

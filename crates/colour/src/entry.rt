@@ -1,6 +1,6 @@
 // Window entries: what an entry says at a depth, and what a sample then shows.
-ghost use mathlib.Core.Path.{_≡_};
 ghost use Prim.Native.Nat.{_<_};
+ghost use mathlib.Core.Path.{_≡_};
 ghost use Rattle.colour.specs.Entry.{lowOf, decoded};
 ghost use Rattle.colour.specs.Shown.{sampleOf, shownOf};
 use formats::Format;

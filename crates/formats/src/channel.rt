@@ -1,6 +1,6 @@
 // Channels of a sample, widened to 8 bits.
-ghost use mathlib.Core.Path.{_≡_};
 ghost use Prim.Native.Nat.{_≤_, _<_, _^_};
+ghost use mathlib.Core.Path.{_≡_};
 ghost use Rattle.formats.specs.Channel.{widened, channel, colourOf};
 use words::Rgb;
 

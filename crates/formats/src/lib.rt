@@ -1,8 +1,8 @@
 // Pixel formats: a type for each, with its bits.
 mod channel;
 
-ghost use mathlib.Core.Path.{_≡_};
 ghost use Prim.Native.Nat.{_+_, _*_};
+ghost use mathlib.Core.Path.{_≡_};
 ghost use Rattle.formats.specs.Table.{numbered, widthsOf, partAt, hasDepth, hasBuffer, hasBank, valueOf, colourIn};
 use words::Rgb;
 

@@ -3,27 +3,27 @@ use Prim.Native.Nat.{ℕ, zero, suc}
 use mathlib.Core.Path.{_≡_, refl, sym, subst}
 use mathlib.Core.List.{List, [], _∷_, _++_}
 use lib.ListN.{length, replicate}
-use Rattle.chip.specs.State.{Whole}
-use Rattle.chip.specs.Inner.{fit}
 use Rattle.rules.specs.Rule.{Outcome, ok}
 use Rattle.rules.specs.Faults.{Numbered}
 use Rattle.timing.specs.declared.Signals.{Signals}
 use Rattle.registers.specs.declared.Register.{Register}
 use Rattle.registers.specs.declared.Named.the-variants.{Is}
 use Rattle.queue.specs.declared.Waiting.{Waiting}
+use Rattle.chip.specs.State.{Whole}
 use Rattle.chip.specs.Call.{Chip}
 use Rattle.chip.specs.Write.{put, written}
 use Rattle.chip.specs.Dot.{signalsOf, afterDot, dotted}
 use Rattle.chip.specs.Dots.{ran}
+use Rattle.chip.specs.Inner.{fit}
 use Rattle.chip.specs.declared.state.Fit.{Fit}
 use Rattle.chip.specs.declared.state.Fit.the-variants.{Yes, Refused}
-use Rattle.history.specs.Calls.{Call, write, read, dot, dots, line, after, end}
-use Rattle.history.specs.Ledger.{colourWrite, accepts, accepted, blankedBy, blankedDots, blanks, blanked}
 use Rattle.chip.proofs.Good.{put-whole, dot-whole, dots-whole}
 use Rattle.chip.proofs.Fit.{GoesOn}
 use Rattle.chip.proofs.Runs.{dot-unfit, dot-done, dots-unfit, dots-done}
-use Rattle.history.proofs.Refused.{read-same}
+use Rattle.history.specs.Calls.{Call, write, read, dot, dots, line, after, end}
+use Rattle.history.specs.Ledger.{colourWrite, accepts, accepted, blankedBy, blankedDots, blanks, blanked}
 use Rattle.history.proofs.Wrote.{Put, Wrote, nothing, into, wrote}
+use Rattle.history.proofs.Refused.{read-same}
 use Rattle.history.proofs.DotByDot.{dots-as-dots}
 
 -- ---- the arrays keep their sizes

@@ -2,23 +2,23 @@
 use Prim.Native.Nat.{ℕ, zero, suc}
 use mathlib.Core.Path.{_≡_, refl, ap, sym, _∙_}
 use lib.ListN.{length, replicate}
-use Rattle.chip.specs.State.{Whole}
-use Rattle.chip.specs.Inner.{fit}
 use Rattle.rules.specs.Rule.{Outcome, ok, refused}
 use Rattle.rules.specs.Faults.{Numbered}
 use Rattle.timing.specs.declared.Signals.{Signals}
+use Rattle.chip.specs.State.{Whole}
 use Rattle.chip.specs.Call.{Chip}
 use Rattle.chip.specs.Dot.{afterDot, dotted}
 use Rattle.chip.specs.Dots.{afterDots, lastReport, ran}
+use Rattle.chip.specs.Inner.{fit}
 use Rattle.chip.specs.declared.dots.Report.{Report}
 use Rattle.chip.specs.declared.dots.Report.the-variants.{Last}
 use Rattle.chip.specs.declared.refusal.Refusal.{Refusal}
 use Rattle.chip.specs.declared.state.Fit.{Fit}
 use Rattle.chip.specs.declared.state.Fit.the-variants.{Yes, Refused}
-use Rattle.history.specs.Calls.{dot, dots, after, end}
 use Rattle.chip.proofs.Good.{dot-length, dot-whole, dot-good, dots-length, dots-good}
 use Rattle.chip.proofs.Fit.{GoesOn, fit-says, says-fit}
 use Rattle.chip.proofs.Runs.{dot-unfit, dot-done, dots-unfit, dots-done}
+use Rattle.history.specs.Calls.{dot, dots, after, end}
 
 -- what a dot leaves goes on where the dot did
 pub dot-goes-on : (chip : Chip) → Whole (chip .0) → GoesOn chip → GoesOn (afterDot chip)

@@ -22,10 +22,10 @@ use Rattle.chip.specs.State.{fresh, Whole}
 use Rattle.chip.specs.Call.{Chip}
 use Rattle.chip.specs.Write.{putIn}
 use Rattle.chip.specs.Dot.{signalsOf, drains, target, afterDot}
-use Rattle.history.specs.Calls.{Call, end}
-use Rattle.history.specs.Ledger.{front, applied, latest}
 use Rattle.chip.proofs.Good.{fresh-whole}
 use Rattle.chip.proofs.Fit.{fit-says}
+use Rattle.history.specs.Calls.{Call, end}
+use Rattle.history.specs.Ledger.{front, applied, latest}
 use Rattle.history.proofs.Calls.{Law, law-calls}
 
 -- lists that are joined part by part

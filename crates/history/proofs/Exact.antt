@@ -6,20 +6,20 @@ use mathlib.Core.List.{List, [], _∷_, _++_, append-nil}
 use native.Mathlib.Omega.{arith}
 use lib.ListN.{length, getD}
 use Rattle.queue.specs.Queue.{zeroSlot, waitingIn}
-use Rattle.chip.specs.State.{fresh, goodState, Whole}
 use Rattle.queue.specs.declared.Waiting.{Waiting}
-use Rattle.chip.specs.Call.{Chip}
-use Rattle.chip.specs.Dot.{target}
-use Rattle.history.specs.Calls.{Call, write, after, end}
-use Rattle.history.specs.Ledger.{accepts, accepted, blanks, blanked}
-use Rattle.chip.proofs.Good.{good-says, fresh-whole, fresh-good}
 use Rattle.queue.proofs.Rule as rule
 use Rattle.queue.proofs.Rule.{good-each, write-says}
+use Rattle.chip.specs.State.{fresh, goodState, Whole}
+use Rattle.chip.specs.Call.{Chip}
+use Rattle.chip.specs.Dot.{target}
+use Rattle.chip.proofs.Good.{good-says, fresh-whole, fresh-good}
+use Rattle.history.specs.Calls.{Call, write, after, end}
+use Rattle.history.specs.Ledger.{accepts, accepted, blanks, blanked}
 use Rattle.history.proofs.Calls.{stays-whole}
 use Rattle.history.proofs.Stays.{stays-good}
 use Rattle.history.proofs.Acts.{acts-waits, acts-exact}
-use Rattle.history.proofs.Entries.{latest-last, map-entry}
 use Rattle.history.proofs.Ledger.{calls-act, ledger-from, few-wait, waiting-count}
+use Rattle.history.proofs.Entries.{latest-last, map-entry}
 
 module _ (chip : Chip) (calls : List Call) (whole : Whole (chip .0)) (good : goodState (chip .0) ≡ true) (k : ℕ) (waits : k < chip .0 .queue .waiting) where
   -- it stands in the list of those that wait

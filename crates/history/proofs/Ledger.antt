@@ -7,6 +7,8 @@ use native.Mathlib.Omega.{arith}
 use borrow.Author.Tests.{ltb-true, ltb-false}
 use lib.Dec.{ltb}
 use lib.ListN.{length, length-append}
+use Rattle.rules.specs.Rule.{ok}
+use Rattle.timing.specs.declared.Signals.{Signals}
 use Rattle.registers.specs.declared.Block.{Block}
 use Rattle.registers.specs.declared.Block.the-variants.{Control, WindowEntries, ColourMap, GammaMap, CursorGlyph, CursorColours}
 use Rattle.registers.specs.declared.Named.the-variants.{Is}
@@ -19,10 +21,10 @@ use Rattle.chip.specs.State.{fresh, goodState, Whole}
 use Rattle.chip.specs.Call.{Chip}
 use Rattle.chip.specs.Write.{waitsIn, putIn}
 use Rattle.chip.specs.Dot.{signalsOf, drains, afterDot}
-use Rattle.history.specs.Calls.{Call, end}
-use Rattle.history.specs.Ledger.{colourWrite, accepted, front, blanked, applied, met}
 use Rattle.chip.proofs.Good.{good-says, not-full, fresh-whole, fresh-good}
 use Rattle.chip.proofs.Fit.{fit-says}
+use Rattle.history.specs.Calls.{Call, end}
+use Rattle.history.specs.Ledger.{colourWrite, accepted, front, blankedBy, blanked, applied, met}
 use Rattle.history.proofs.Calls.{Law, law-calls, stays-whole}
 use Rattle.history.proofs.Stays.{stays-good}
 use Rattle.history.proofs.Acts.{Acts, still, joins, leaves, finds-none, acts-then, acts-ledger, acts-met}
@@ -54,6 +56,14 @@ step-acts queue sized few true = by (ltb 0 (queue .waiting)) refl
     by false e =
         let none : queue .waiting ≡ 0 = omega (arith, ltb-false 0 (queue .waiting) e) in
         rw none (finds-none still)
+
+one-or-none : {A : Type 0} (blank : Bool) (some : A) → length (cond blank (some ∷ []) []) ≡ cond blank 1 0
+one-or-none true some = refl
+one-or-none false some = refl
+
+-- a dot that reported blank counts as one, whether or not something waits, and no other dot counts
+pub blank-counts : (signals : Signals) (queue : Queue) → length (blankedBy (ok signals) queue) ≡ cond (signals .blank) 1 0
+blank-counts signals queue = one-or-none (signals .blank) (front queue)
 
 -- ---- every sequence
 

@@ -9,10 +9,10 @@ use Rattle.registers.specs.Store.{storeLength}
 use Rattle.queue.specs.declared.Waiting.{Waiting}
 use Rattle.chip.specs.State.{fresh, goodState, Whole}
 use Rattle.chip.specs.Call.{Chip}
-use Rattle.history.specs.Calls.{Call, RefusedBy, end}
-use Rattle.history.specs.Ledger.{accepted, blanked, applied}
 use Rattle.chip.proofs.Good.{fresh-whole, fresh-good, put-length, put-good, dot-length, dot-good}
 use Rattle.chip.proofs.Fit.{GoesOn, fit-says}
+use Rattle.history.specs.Calls.{Call, RefusedBy, end}
+use Rattle.history.specs.Ledger.{accepted, blanked, applied}
 use Rattle.history.proofs.Refused.{good-not-11}
 use Rattle.history.proofs.Calls.{Law, law-calls}
 

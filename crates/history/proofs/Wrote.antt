@@ -18,9 +18,9 @@ use Rattle.registers.proofs.Naming.{named-word}
 use Rattle.queue.specs.Queue.{full}
 use Rattle.chip.specs.Call.{Chip}
 use Rattle.chip.specs.Write.{waits, registerFaults, writeFaults, put, putNamed, written}
+use Rattle.chip.proofs.Fit.{GoesOn, says-fit}
 use Rattle.history.specs.Calls.{write}
 use Rattle.history.specs.Ledger.{colourWrite, acceptedBy, accepts}
-use Rattle.chip.proofs.Fit.{GoesOn, says-fit}
 
 -- a write that put its value into a register: it went on, there is such a word, the value fits, there was room; what it left, and what it accepted
 pub record Put (chip : Chip) (address value : ℕ) (register : Register) : Type 0 where

@@ -4,8 +4,8 @@ use mathlib.Core.Bool.{cond}
 use mathlib.Core.List.{List, [], _∷_, _++_}
 use lib.Dec.{ltb, eqb}
 use Rattle.rules.specs.Rule.{Outcome, ok, refused}
-use Rattle.rules.specs.Faults.{Numbered}
 use Rattle.rules.specs.Lists.{joined}
+use Rattle.rules.specs.Faults.{Numbered}
 use Rattle.timing.specs.declared.Signals.{Signals}
 use Rattle.registers.specs.Named.{named}
 use Rattle.registers.specs.declared.Named.{Named}

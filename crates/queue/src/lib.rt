@@ -1,6 +1,6 @@
 // The queue of colour writes: up to 64 that wait, the oldest first.
-ghost use mathlib.Core.Path.{_≡_};
 ghost use Prim.Native.Nat.{_-_};
+ghost use mathlib.Core.Path.{_≡_};
 ghost use Rattle.queue.specs.Waiting.{goodWrite};
 ghost use Rattle.queue.specs.Queue.{empty, room, full, oldest, pushed, popped};
 ghost use Rattle.queue.specs.Good.{goodQueue};

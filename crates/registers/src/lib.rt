@@ -1,7 +1,7 @@
 // The register map: what an address names, which bits a register keeps, and where it stands in the store.
+ghost use Prim.Native.Nat.{_≤_};
 ghost use mathlib.Core.Path.{_≡_};
 ghost use mathlib.Core.List.{[], _∷_};
-ghost use Prim.Native.Nat.{_≤_};
 ghost use Rattle.registers.specs.Blocks.{blocks, start, count};
 ghost use Rattle.registers.specs.Named.{placeOf, among, named};
 ghost use Rattle.registers.specs.Kept.{keptOfControl, keptOf, fits};

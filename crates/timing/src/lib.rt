@@ -1,7 +1,7 @@
 // Timing: the circular window, the signals of a position, its moves, and the walk to the next blanked one.
+ghost use Prim.Native.Nat.{ℕ, _+_, _≤_, _<_, min};
 ghost use mathlib.Core.Path.{_≡_};
 ghost use mathlib.Core.Bool.{false, _&&_};
-ghost use Prim.Native.Nat.{ℕ, _+_, _≤_, _<_, min};
 ghost use Rattle.words.specs.Field.{field};
 ghost use Rattle.timing.specs.Window.{inWindow};
 ghost use Rattle.timing.specs.Signals.{holds, isEmpty, signalsAt};

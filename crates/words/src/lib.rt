@@ -1,6 +1,6 @@
 // Words: fields of a word, big-endian numbers in lent bytes, and the three channels of a colour.
-ghost use mathlib.Core.Path.{_≡_};
 ghost use Prim.Native.Nat.{_+_, _-_, _≤_, _<_, _^_};
+ghost use mathlib.Core.Path.{_≡_};
 ghost use lib.ListN.{length};
 ghost use Rattle.words.specs.Field.{bits, field};
 ghost use Rattle.words.specs.Bytes.{bigEndian};

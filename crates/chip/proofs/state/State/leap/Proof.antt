@@ -4,14 +4,14 @@ use mathlib.Core.Path.{ap, _∙_, sym, _≡_, subst}
 use native.Mathlib.Omega.{arith}
 use borrow.Author.Needs.{needs}
 use lib.ListN.{length, length-map}
-use Rattle.chip.specs.Inner.{Leapt}
 use Rattle.timing.specs.Walk.{walked}
 use Rattle.timing.specs.declared.Windows.{Windows}
 use Rattle.timing.specs.declared.Walk.{Walk}
 use Rattle.chip.specs.State.{windowsOf, controlWord, withPosition}
 use Rattle.chip.specs.Call.{Chip}
-use Rattle.chip.specs.declared.state.State.{State}
 use Rattle.chip.specs.Dot.{afterDot}
+use Rattle.chip.specs.Inner.{Leapt}
+use Rattle.chip.specs.declared.state.State.{State}
 use Rattle.chip.proofs.Runs.{there-good, leap-none, leap-out, leap-blanked}
 use Rattle.chip.proofs.state.State.leap.Statement.{statement}
 use Rattle.chip.proofs.state.State.leap.Tie as tie

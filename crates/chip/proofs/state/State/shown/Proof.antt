@@ -3,8 +3,8 @@ use Prim.Native.Nat.{_<_}
 use mathlib.Core.Path.{ap, sym, _∙_}
 use native.Mathlib.Omega.{arith}
 use borrow.Author.Needs.{needs}
-use Rattle.registers.specs.declared.Block.{Block}
 use Rattle.registers.specs.Store.{storeLength}
+use Rattle.registers.specs.declared.Block.{Block}
 use Rattle.registers.proofs.Store.{store-below}
 use Rattle.chip.specs.Read.{shownIn}
 use Rattle.chip.proofs.Blocks.{elsewhere-stored, stored-shown}

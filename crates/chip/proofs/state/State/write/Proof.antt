@@ -6,7 +6,6 @@ use mathlib.Core.List.{List}
 use borrow.Author.Needs.{needs}
 use borrow.Author.Tests.{not-true, not-false}
 use lib.ListN.{length}
-use Rattle.chip.specs.Inner.{fit}
 use Rattle.rules.specs.Rule.{Outcome, ok, refused}
 use Rattle.rules.specs.Faults.{Numbered}
 use Rattle.registers.specs.Named.{named}
@@ -16,14 +15,15 @@ use Rattle.registers.proofs.Naming.{named-word}
 use Rattle.chip.specs.Refusal.{numbered}
 use Rattle.chip.specs.Call.{Chip}
 use Rattle.chip.specs.Write.{readOnly, told}
+use Rattle.chip.specs.Inner.{fit}
 use Rattle.chip.specs.declared.refusal.Refusal.{Refusal}
 use Rattle.chip.specs.declared.refusal.Refusal.the-variants.{NoRegister, ReadOnly, StrayBits, QueueFull}
 use Rattle.chip.specs.declared.state.State.{State}
 use Rattle.chip.specs.declared.state.Fit.the-variants.{Yes}
 use Rattle.chip.specs.declared.write.Answer.the-variants.{Refused}
 use Rattle.chip.specs.declared.write.Written.{Written}
-use Rattle.chip.proofs.Writes.{write-unfit, write-nowhere, write-read-only, write-stray, write-no-room, write-done}
 use Rattle.chip.proofs.Fit.{fit-says}
+use Rattle.chip.proofs.Writes.{write-unfit, write-nowhere, write-read-only, write-stray, write-no-room, write-done}
 use Rattle.chip.proofs.state.State.write.Statement.{statement}
 use Rattle.chip.proofs.state.State.write.Tie as tie
 
