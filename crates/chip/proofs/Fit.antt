@@ -28,6 +28,7 @@ abbrev goesOn : Fit → Bool
 goesOn Yes = true
 goesOn (Refused refusal) = false
 
+-- both tests of a call that may go on
 fit-parts : (good right : Bool) → cond good (cond right Yes (Refused StoreLength)) (Refused BadState) ≡ Yes → (good ≡ true) × (right ≡ true)
 fit-parts true true e = (refl, refl)
 fit-parts true false e = absurd (false≢true (ap goesOn e))
@@ -45,10 +46,12 @@ module _ (state : State) (size : ℕ) where
   says-fit good right = simp (good, eq-eqb _ _ right)
 
   module _ {Memory Answer : Type 0} (others : List Fault) (before : Memory) (done : Memory × Answer) where
+    -- what a call comes to by its first test
     by-fit : Fit → Memory × Outcome Numbered Answer
     by-fit Yes = unless others before done
     by-fit (Refused refusal) = (before, refused (numbered refusal))
 
+    -- the first faults of a call are that test
     fit-decides : unless (callFaults state size ++ others) before done ≡ by-fit (fit state size)
     unfolding fit by-fit
     fit-decides = by (goodState state) (eqb size storeLength)

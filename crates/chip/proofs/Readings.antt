@@ -25,6 +25,7 @@ module _ (chip : Chip) (address : ℕ) where
       fit-off (chip .0) (length (chip .1)) (nameFaults (named address) (placeOf address)) chip (chip, shownNamed chip (named address)) refusal e
 
   module _ (fine : fit (chip .0) (length (chip .1)) ≡ Yes) where
+    -- a read that may go on, by what its address names
     read-by : (what : Named) → named address ≡ what → readBack chip address ≡ unless (nameFaults what (placeOf address)) chip (chip, shownNamed chip what)
     unfolding readBack
     read-by what e =

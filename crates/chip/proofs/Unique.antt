@@ -67,10 +67,12 @@ known (QueueFull address) = refl
 known StoreLength = refl
 known BadState = refl
 
-module _ {Said Answer : Type 0} (told : Answer → Outcome Numbered Said) (answer-of : Outcome Numbered Said → Answer)
-    (back : (answer : Answer) → answer-of (told answer) ≡ answer) where
-  same-answer : (answer other : Answer) → told answer ≡ told other → answer ≡ other
-  same-answer answer other says = sym (back answer) ∙ ap answer-of says ∙ back other
+-- where an answer is known by what it says, the state and that make the whole result
+same-result : {Said Answer Result : Type 0} (told : Answer → Outcome Numbered Said) (answer-of : Outcome Numbered Said → Answer)
+    (back : (answer : Answer) → answer-of (told answer) ≡ answer) (result : State → Answer → Result) (state state′ : State) (answer answer′ : Answer)
+    → state ≡ state′ → told answer ≡ told answer′ → result state answer ≡ result state′ answer′
+same-result {Said} {Answer} {Result} told answer-of back result state state′ answer answer′ states says =
+    ap (λ (state : State). result state answer) states ∙ ap (result state′) (sym (back answer) ∙ ap answer-of says ∙ back answer′)
 
 -- ---- write
 
@@ -85,9 +87,9 @@ write-back (WriteRefused refusal) = ap WriteRefused (known refusal)
 pub write-unique : OneOutcome (λ k exit. now (exit .1 .0)) write.Post
 write-unique =
     by-outcome (λ k (r : Written). r .state) (λ k (r : Written). write-spec.told (r .answer))
-    (λ k (r : Written) (r′ : Written) states says.
-    ap (λ (state : State). record { state = state; answer = r .answer }) states
-    ∙ ap (λ (answer : WriteAnswer). record { state = r′ .state; answer = answer }) (same-answer write-spec.told write-answer write-back (r .answer) (r′ .answer) says))
+    (λ k (r : Written) (r′ : Written).
+    same-result write-spec.told write-answer write-back (λ (state : State) (answer : WriteAnswer). record { state = state; answer = answer })
+    (r .state) (r′ .state) (r .answer) (r′ .answer))
     _ (λ k exit. now (exit .1 .0)) _
 
 -- ---- read
@@ -103,9 +105,9 @@ read-back (ReadRefused refusal) = ap ReadRefused (known refusal)
 pub read-unique : OneAnswer read.Post
 read-unique =
     by-saying (λ k (r : ReadBack). r .state) (λ k (r : ReadBack). read-spec.told (r .answer))
-    (λ k (r : ReadBack) (r′ : ReadBack) states says.
-    ap (λ (state : State). record { state = state; answer = r .answer }) states
-    ∙ ap (λ (answer : ReadAnswer). record { state = r′ .state; answer = answer }) (same-answer read-spec.told read-answer read-back (r .answer) (r′ .answer) says))
+    (λ k (r : ReadBack) (r′ : ReadBack).
+    same-result read-spec.told read-answer read-back (λ (state : State) (answer : ReadAnswer). record { state = state; answer = answer })
+    (r .state) (r′ .state) (r .answer) (r′ .answer))
     _ _ _
 
 -- ---- dot
@@ -121,9 +123,9 @@ dot-back (DotRefused refusal) = ap DotRefused (known refusal)
 pub dot-unique : OneOutcome (λ k exit. now (exit .1 .0)) dot.Post
 dot-unique =
     by-outcome (λ k (r : Dotted). r .state) (λ k (r : Dotted). dot-spec.told (r .answer))
-    (λ k (r : Dotted) (r′ : Dotted) states says.
-    ap (λ (state : State). record { state = state; answer = r .answer }) states
-    ∙ ap (λ (answer : DotAnswer). record { state = r′ .state; answer = answer }) (same-answer dot-spec.told dot-answer dot-back (r .answer) (r′ .answer) says))
+    (λ k (r : Dotted) (r′ : Dotted).
+    same-result dot-spec.told dot-answer dot-back (λ (state : State) (answer : DotAnswer). record { state = state; answer = answer })
+    (r .state) (r′ .state) (r .answer) (r′ .answer))
     _ (λ k exit. now (exit .1 .0)) _
 
 -- ---- dots
@@ -139,7 +141,7 @@ dots-back (DotsRefused refusal) = ap DotsRefused (known refusal)
 pub dots-unique : OneOutcome (λ k exit. now (exit .1 .0)) dots.Post
 dots-unique =
     by-outcome (λ k (r : Ran). r .state) (λ k (r : Ran). dots-spec.told (r .answer))
-    (λ k (r : Ran) (r′ : Ran) states says.
-    ap (λ (state : State). record { state = state; answer = r .answer }) states
-    ∙ ap (λ (answer : DotsAnswer). record { state = r′ .state; answer = answer }) (same-answer dots-spec.told dots-answer dots-back (r .answer) (r′ .answer) says))
+    (λ k (r : Ran) (r′ : Ran).
+    same-result dots-spec.told dots-answer dots-back (λ (state : State) (answer : DotsAnswer). record { state = state; answer = answer })
+    (r .state) (r′ .state) (r .answer) (r′ .answer))
     _ (λ k exit. now (exit .1 .0)) _

@@ -27,6 +27,7 @@ module _ (chip : Chip) (address value : ℕ) where
       fit-off (chip .0) (length (chip .1)) (registerFaults chip (named address) (placeOf address) value) chip (putNamed chip (named address) value, tt) refusal e
 
   module _ (fine : fit (chip .0) (length (chip .1)) ≡ Yes) where
+    -- a write that may go on, by what its address names
     write-by : (what : Named) → named address ≡ what → written chip address value ≡ unless (registerFaults chip what (placeOf address) value) chip (putNamed chip what value, tt)
     unfolding written
     write-by what e =

@@ -57,6 +57,7 @@ step-acts queue sized few true = by (ltb 0 (queue .waiting)) refl
         let none : queue .waiting ≡ 0 = omega (arith, ltb-false 0 (queue .waiting) e) in
         rw none (finds-none still)
 
+-- one element or none
 one-or-none : {A : Type 0} (blank : Bool) (some : A) → length (cond blank (some ∷ []) []) ≡ cond blank 1 0
 one-or-none true some = refl
 one-or-none false some = refl

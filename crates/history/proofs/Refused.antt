@@ -77,6 +77,7 @@ avoids-one number (fault ∷ passed) found later avoids = avoids-one number pass
 
 -- and no call is refused by it
 module _ {Memory Answer : Type 0} (before : Memory) (does : Memory × Answer) (faults : List Fault) (number : ℕ) (avoids : Avoids number faults) where
+  -- a refusal does not have a number that no fault which holds has
   avoids-all : (refusal : Numbered) → unless faults before does .1 ≡ refused refusal → refusal .number ≡ number → ⊥
   avoids-all refusal e same =
       let f = refused-first before does faults refusal e in

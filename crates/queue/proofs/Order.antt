@@ -21,14 +21,17 @@ module _ (queue : Queue) (write : Waiting) (more : queue .waiting < 64) where
   pub waiting-pushed : Sized queue → waitingIn (pushed queue write) ≡ waitingIn queue ++ (write ∷ [])
   waiting-pushed sized = ap waitingIn pushed-is ∙ rw add-one (take-suc-set (queue .slots) (queue .waiting) write (omega arith))
 
+  -- there are as many slots as before
   pub sized-pushed : Sized queue → Sized (pushed queue write)
   sized-pushed sized = rw pushed-is (simp length-set sized)
 
+-- of a list with one more at its end the first elements are the same
 take-front : (n : ℕ) (slots : List Waiting) (last : Waiting) → n ≤ length slots → take n (slots ++ (last ∷ [])) ≡ take n slots
 take-front zero slots last h = refl
 take-front (suc n) [] last h = absurd (omega arith)
 take-front (suc n) (a ∷ slots) last h = ap (λ (rest : List Waiting). a ∷ rest) (take-front n slots last (omega arith))
 
+-- where all move up by one, those that waited but the first are the first now
 take-shift : (n : ℕ) (slots : List Waiting) (last : Waiting) → n ≤ length slots → take (n - 1) (drop 1 slots ++ (last ∷ [])) ≡ drop 1 (take n slots)
 take-shift zero slots last h = refl
 take-shift (suc n) [] last h = absurd (omega arith)
@@ -41,6 +44,7 @@ module _ (queue : Queue) (sized : Sized queue) where
   pub waiting-popped : queue .waiting ≤ 64 → waitingIn (popped queue) ≡ drop 1 (waitingIn queue)
   waiting-popped few = take-shift (queue .waiting) (queue .slots) zeroSlot (omega arith)
 
+  -- there are as many slots as before
   pub sized-popped : Sized (popped queue)
   sized-popped = by (queue .slots) sized
     where

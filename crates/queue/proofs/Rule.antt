@@ -26,6 +26,7 @@ both false b e = absurd (false≢true e)
 -- ---- the loop: what is tested from slot i on
 
 module _ (queue : Queue) (i : ℕ) (d : Waiting) (here : i < queue .waiting) (sized : i < length (queue .slots)) where
+  -- the test from a slot on is that of the slot and of those behind it
   good-from : allGood (drop i (waitingIn queue)) ≡ (goodWrite (getD (queue .slots) i d) && allGood (drop (i + 1) (waitingIn queue)))
   good-from =
       rw (drop-cons (waitingIn queue) i d (simp length-take (omega arith)), getD-take (queue .waiting) (queue .slots) i d here, add-one) refl
@@ -73,10 +74,12 @@ good-each (first ∷ writes) (suc k) good here = good-each writes k (both (goodW
 
 -- ---- that the rule is kept
 
+-- good writes with a good one behind them are good
 all-behind : (writes : List Waiting) (write : Waiting) → allGood writes ≡ true → goodWrite write ≡ true → allGood (writes ++ (write ∷ [])) ≡ true
 all-behind [] write h g = rw g refl
 all-behind (a ∷ writes) write h g = let e = both (goodWrite a) (allGood writes) h in rw (e .0) (all-behind writes write (e .1) g)
 
+-- good writes without the first are good
 all-but-first : (writes : List Waiting) → allGood writes ≡ true → allGood (drop 1 writes) ≡ true
 all-but-first [] h = refl
 all-but-first (a ∷ writes) h = both (goodWrite a) (allGood writes) h .1
