@@ -1,10 +1,10 @@
 -- The bits that a register keeps: kept bits fit, and what fits is kept whole. Assumes nothing.
-use Prim.Native.Nat.{ℕ, _+_, _^_, _<_}
+use Prim.Native.Nat.{ℕ, _+_, _^_}
 use mathlib.Core.Path.{_≡_, sym, _∙_}
 use mathlib.Core.Bool.{Bool, true, false, cond}
 use mathlib.Core.Logic.{⊎-elim}
 use native.Mathlib.Omega.{arith}
-use borrow.Author.Tests.{ltb-true, eqb-true, lt-ltb, le-ltb, eq-eqb, ne-eqb}
+use borrow.Author.Tests.{eqb-true, lt-ltb, le-ltb, eq-eqb, ne-eqb}
 use lib.Dec.{ltb, eqb}
 use Rattle.rules.proofs.Cases.{le-or-lt}
 use Rattle.registers.specs.Kept.{only, keptOfControl, keptIn, keptOf, fits}
@@ -38,30 +38,6 @@ fields-again : (is0 is7 : Bool) (value : ℕ) → fieldsOf is0 is7 (fieldsOf is0
 fields-again true is7 value = omega arith
 fields-again false true value = omega arith
 fields-again false false value = omega arith
-
--- fields have at most 32 bits
-fields-below : (is0 is7 : Bool) (value : ℕ) → fieldsOf is0 is7 value < 2 ^ 32
-fields-below true is7 value = omega arith
-fields-below false true value = omega arith
-fields-below false false value = omega arith
-
--- a control word keeps at most 32 bits
-pub control-below : (word value : ℕ) → keptOfControl word value < 2 ^ 32
-unfolding keptOfControl
-control-below word value = fields-below (eqb word 0) (eqb word 7) value
-
--- block by block, at most 32 bits are kept
-kept-in-below : (block : Block) (word value : ℕ) → keptIn block word value < 2 ^ 32
-kept-in-below Control word value = control-below word value
-kept-in-below WindowEntries word value = omega arith
-kept-in-below ColourMap word value = omega arith
-kept-in-below GammaMap word value = omega arith
-kept-in-below CursorGlyph word value = omega arith
-kept-in-below CursorColours word value = omega arith
-
--- so does every register
-pub kept-below : (register : Register) (value : ℕ) → keptOf register value < 2 ^ 32
-kept-below register value = kept-in-below (register .block) (register .word) value
 
 -- block by block, what is kept is kept again
 kept-in-again : (block : Block) (word value : ℕ) → keptIn block word (keptIn block word value) ≡ keptIn block word value
@@ -97,7 +73,3 @@ module _ (word value : ℕ) where
   pub colour-fits : fits (record { block = ColourMap; word = word }) value ≡ ltb value (2 ^ 24)
   unfolding fits
   colour-fits = fits-24 value
-
-  -- what fits is below 2 ^ 24
-  pub colour-below : fits (record { block = ColourMap; word = word }) value ≡ true → value < 2 ^ 24
-  colour-below whole = ltb-true value (2 ^ 24) (sym colour-fits ∙ whole)

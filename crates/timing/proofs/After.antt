@@ -2,7 +2,7 @@
 use Prim.Native.Nat.{ℕ, zero, suc, min, _+_, _-_, _/_, _%_, _^_, _≤_, _<_}
 use mathlib.Core.Path.{_≡_, refl, sym, ap, _∙_}
 use native.Mathlib.Decide.{decLt}
-use native.Mathlib.Nat.{zero-add, suc-add, mod-eq-of-lt, mod-self, add-mod-right, add-div-right, div-eq-of-lt}
+use native.Mathlib.Nat.{mod-eq-of-lt, mod-self, add-mod-right, add-div-right, div-eq-of-lt}
 use native.Mathlib.Numerals.{add-one}
 use native.Mathlib.Omega.{arith}
 use borrow.Author.Tests.{le-leb, lt-leb}
@@ -116,12 +116,6 @@ pub after-y-lt : (at : Position) (count word : ℕ) → at .y < 2 ^ 12 → posit
 unfolding positionAfter
 after-y-lt at zero word h = h
 after-y-lt at (suc count) word h = after-y-lt (nextPosition at word) count word (next-y-lt at word h)
-
--- moves after moves are as many moves at once
-pub after-add : (at : Position) (a b word : ℕ) → positionAfter at (a + b) word ≡ positionAfter (positionAfter at a word) b word
-unfolding positionAfter
-after-add at zero b word = rw (zero-add b)
-after-add at (suc a) b word = rw (suc-add a b) (after-add (nextPosition at word) a b word)
 
 -- one move more, as the last
 pub after-next : (at : Position) (count word : ℕ) → positionAfter at (suc count) word ≡ nextPosition (positionAfter at count word) word
