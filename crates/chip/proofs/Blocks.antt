@@ -6,14 +6,14 @@ use mathlib.Core.List.{List, [], _∷_}
 use types.Run.{OneOf, miss}
 use denote.Enum.Declared.{tagOf}
 use lib.ListN.{set}
-use Rattle.registers.specs.Store.{inStore, storeIndex}
+use Rattle.registers.specs.Store.{inStore, storeIndex, stored}
 use Rattle.registers.specs.declared.Block.{Block}
 use Rattle.registers.specs.declared.Block.the-variants.{Control, WindowEntries, ColourMap, GammaMap, CursorGlyph, CursorColours}
 use Rattle.registers.specs.declared.Register.{Register}
 use Rattle.registers.proofs.Block.{the-type}
 use Rattle.chip.specs.Call.{Chip}
 use Rattle.chip.specs.Write.{readOnlyIn, waitsIn, putIn}
-use Rattle.chip.specs.Read.{stored, shownIn}
+use Rattle.chip.specs.Read.{shownIn}
 
 -- the tags of the blocks but control
 abbrev but-control : List ℕ

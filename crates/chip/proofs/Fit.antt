@@ -8,13 +8,13 @@ use lib.Dec.{eqb}
 use lib.ListN.{length}
 use Rattle.rules.specs.Rule.{Outcome, refused}
 use Rattle.rules.specs.Faults.{Numbered, Fault, unless}
+use Rattle.refusals.specs.Refusal.{numbered}
+use Rattle.refusals.specs.declared.Refusal.{Refusal}
+use Rattle.refusals.specs.declared.Refusal.the-variants.{StoreLength, BadState}
 use Rattle.registers.specs.Store.{storeLength}
-use Rattle.chip.specs.Refusal.{numbered}
 use Rattle.chip.specs.State.{goodState}
 use Rattle.chip.specs.Call.{Chip, callFaults}
 use Rattle.chip.specs.Inner.{fit}
-use Rattle.chip.specs.declared.refusal.Refusal.{Refusal}
-use Rattle.chip.specs.declared.refusal.Refusal.the-variants.{StoreLength, BadState}
 use Rattle.chip.specs.declared.state.State.{State}
 use Rattle.chip.specs.declared.state.Fit.{Fit}
 use Rattle.chip.specs.declared.state.Fit.the-variants.{Yes, Refused}

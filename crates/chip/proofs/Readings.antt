@@ -4,16 +4,16 @@ use mathlib.Core.Path.{_≡_, ap, _∙_}
 use lib.ListN.{length}
 use Rattle.rules.specs.Rule.{ok, refused}
 use Rattle.rules.specs.Faults.{unless}
+use Rattle.refusals.specs.Refusal.{numbered}
+use Rattle.refusals.specs.declared.Refusal.{Refusal}
+use Rattle.refusals.specs.declared.Refusal.the-variants.{NoRegister}
 use Rattle.registers.specs.Named.{placeOf, named}
 use Rattle.registers.specs.declared.Register.{Register}
 use Rattle.registers.specs.declared.Named.{Named}
 use Rattle.registers.specs.declared.Named.the-variants.{Is, Nothing}
-use Rattle.chip.specs.Refusal.{numbered}
 use Rattle.chip.specs.Call.{Chip}
 use Rattle.chip.specs.Read.{nameFaults, shown, shownNamed, readBack}
 use Rattle.chip.specs.Inner.{fit}
-use Rattle.chip.specs.declared.refusal.Refusal.{Refusal}
-use Rattle.chip.specs.declared.refusal.Refusal.the-variants.{NoRegister}
 use Rattle.chip.specs.declared.state.Fit.the-variants.{Yes, Refused}
 use Rattle.chip.proofs.Fit.{fit-on, fit-off}
 

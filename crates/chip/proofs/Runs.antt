@@ -8,6 +8,8 @@ use borrow.Author.Tests.{ltb-true, le-ltb}
 use lib.Dec.{ltb}
 use lib.ListN.{length, set}
 use Rattle.rules.specs.Rule.{ok, refused}
+use Rattle.refusals.specs.Refusal.{numbered}
+use Rattle.refusals.specs.declared.Refusal.{Refusal}
 use Rattle.timing.specs.Move.{positionAfter}
 use Rattle.timing.specs.Walk.{walked}
 use Rattle.timing.specs.declared.Position.{Position}
@@ -16,13 +18,11 @@ use Rattle.timing.proofs.Walked.{walk-runs, walk-left-le, walk-at}
 use Rattle.registers.specs.Store.{storeLength}
 use Rattle.queue.specs.Queue.{oldest, popped}
 use Rattle.queue.proofs.Rule.{both}
-use Rattle.chip.specs.Refusal.{numbered}
 use Rattle.chip.specs.State.{controlWord, windowsOf, withPosition, withQueue, goodState, Whole}
 use Rattle.chip.specs.Call.{Chip}
 use Rattle.chip.specs.Dot.{signalsOf, drains, target, moved, afterDot, dotted}
 use Rattle.chip.specs.Dots.{afterDots, lastReport, ran}
 use Rattle.chip.specs.Inner.{fit, Leapt}
-use Rattle.chip.specs.declared.refusal.Refusal.{Refusal}
 use Rattle.chip.specs.declared.state.State.{State}
 use Rattle.chip.specs.declared.dots.Report.the-variants.{Nothing, Last}
 use Rattle.chip.specs.declared.state.Fit.the-variants.{Yes, Refused}

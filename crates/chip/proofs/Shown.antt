@@ -8,14 +8,14 @@ use lib.ListN.{length}
 use Rattle.rules.specs.Rule.{ok}
 use Rattle.words.specs.Field.{field}
 use Rattle.registers.specs.Named.{named}
-use Rattle.registers.specs.Store.{inStore, storeLength}
+use Rattle.registers.specs.Store.{inStore, storeLength, stored}
 use Rattle.registers.specs.declared.Block.the-variants.{Control}
 use Rattle.registers.specs.declared.Register.{Register}
 use Rattle.registers.specs.declared.Named.the-variants.{Is}
 use Rattle.registers.proofs.Naming.{named-room, named-position}
 use Rattle.chip.specs.State.{goodState}
 use Rattle.chip.specs.Call.{Chip}
-use Rattle.chip.specs.Read.{shownOfControl, stored, shown, readBack}
+use Rattle.chip.specs.Read.{shownOfControl, shown, readBack}
 use Rattle.chip.specs.declared.state.State.{State}
 use Rattle.chip.proofs.Blocks.{stored-shown}
 use Rattle.chip.proofs.Good.{good-says}

@@ -1,21 +1,17 @@
 -- No second answer meets a contract of this crate, and none leaves another store. Assumes nothing.
 use Prim.Native.Nat.{ℕ}
 use mathlib.Core.Path.{_≡_, refl, ap, sym, _∙_}
-use mathlib.Core.List.{[], _∷_}
 use denote.Ref.{now}
-use lib.ListN.{getD}
 use Rattle.rules.specs.Rule.{Outcome, ok, refused}
 use Rattle.rules.specs.Faults.{Numbered}
 use Rattle.rules.specs.Unique.{OneAnswer, OneOutcome}
 use Rattle.rules.proofs.Unique.{by-equation, by-saying, by-outcome}
+use Rattle.refusals.proofs.Known.{refusalOf, known}
 use Rattle.timing.specs.declared.Signals.{Signals}
-use Rattle.chip.specs.Refusal.{numbered}
 use Rattle.chip.specs.Write as write-spec
 use Rattle.chip.specs.Read as read-spec
 use Rattle.chip.specs.Dot as dot-spec
 use Rattle.chip.specs.Dots as dots-spec
-use Rattle.chip.specs.declared.refusal.Refusal.{Refusal}
-use Rattle.chip.specs.declared.refusal.Refusal.the-variants.{NoRegister, ReadOnly, StrayBits, QueueFull, StoreLength, BadState}
 use Rattle.chip.specs.declared.state.State.{State}
 use Rattle.chip.specs.declared.write.Answer.{Answer as WriteAnswer}
 use Rattle.chip.specs.declared.write.Answer.the-variants.{Done, Refused as WriteRefused}
@@ -30,20 +26,12 @@ use Rattle.chip.specs.declared.dots.Report.{Report}
 use Rattle.chip.specs.declared.dots.Answer.{Answer as DotsAnswer}
 use Rattle.chip.specs.declared.dots.Answer.the-variants.{Reported as DotsReported, Refused as DotsRefused}
 use Rattle.chip.specs.declared.dots.Ran.{Ran}
-use Rattle.chip.proofs.refusal.Refusal.number.Reads as number
-use Rattle.chip.proofs.refusal.Refusal.place.Reads as place
 use Rattle.chip.proofs.state.State.new.Reads as new
 use Rattle.chip.proofs.state.State.good.Reads as good
 use Rattle.chip.proofs.state.State.write.Reads as write
 use Rattle.chip.proofs.state.State.read.Reads as read
 use Rattle.chip.proofs.state.State.dot.Reads as dot
 use Rattle.chip.proofs.state.State.dots.Reads as dots
-
-pub number-unique : OneAnswer number.Post
-number-unique = by-equation _ _
-
-pub place-unique : OneAnswer place.Post
-place-unique = by-equation _ _
 
 pub new-unique : OneAnswer new.Post
 new-unique = by-equation _ _
@@ -52,20 +40,6 @@ pub good-unique : OneAnswer good.Post
 good-unique = by-equation _ _
 
 -- ---- an answer is known by what it says
-
--- the refusal of a number and its values
-abbrev refusalOf : Numbered → Refusal
-refusalOf said =
-    let place = getD (said .values) 0 0 in
-    getD (BadState ∷ NoRegister place ∷ ReadOnly place ∷ StrayBits place ∷ QueueFull place ∷ StoreLength ∷ []) (said .number) BadState
-
-known : (refusal : Refusal) → refusalOf (numbered refusal) ≡ refusal
-known (NoRegister address) = refl
-known (ReadOnly address) = refl
-known (StrayBits address) = refl
-known (QueueFull address) = refl
-known StoreLength = refl
-known BadState = refl
 
 -- where an answer is known by what it says, the state and that make the whole result
 same-result : {Said Answer Result : Type 0} (told : Answer → Outcome Numbered Said) (answer-of : Outcome Numbered Said → Answer)

@@ -5,17 +5,17 @@ use mathlib.Core.Bool.{true, false}
 use lib.ListN.{length}
 use Rattle.rules.specs.Rule.{ok, refused}
 use Rattle.rules.specs.Faults.{unless}
+use Rattle.refusals.specs.Refusal.{numbered}
+use Rattle.refusals.specs.declared.Refusal.{Refusal}
+use Rattle.refusals.specs.declared.Refusal.the-variants.{NoRegister, ReadOnly, StrayBits, QueueFull}
 use Rattle.registers.specs.Named.{placeOf, named}
 use Rattle.registers.specs.Kept.{fits}
 use Rattle.registers.specs.declared.Register.{Register}
 use Rattle.registers.specs.declared.Named.{Named}
 use Rattle.registers.specs.declared.Named.the-variants.{Is, Nothing}
-use Rattle.chip.specs.Refusal.{numbered}
 use Rattle.chip.specs.Call.{Chip}
 use Rattle.chip.specs.Write.{readOnly, noRoomFor, registerFaults, put, putNamed, written}
 use Rattle.chip.specs.Inner.{fit}
-use Rattle.chip.specs.declared.refusal.Refusal.{Refusal}
-use Rattle.chip.specs.declared.refusal.Refusal.the-variants.{NoRegister, ReadOnly, StrayBits, QueueFull}
 use Rattle.chip.specs.declared.state.Fit.the-variants.{Yes, Refused}
 use Rattle.chip.proofs.Fit.{fit-on, fit-off}
 

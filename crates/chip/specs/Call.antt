@@ -4,10 +4,10 @@ use mathlib.Core.Bool.{not}
 use mathlib.Core.List.{List, [], _∷_}
 use lib.Dec.{eqb}
 use Rattle.rules.specs.Faults.{Fault}
+use Rattle.refusals.specs.Refusal.{fault}
+use Rattle.refusals.specs.declared.Refusal.the-variants.{StoreLength, BadState}
 use Rattle.registers.specs.Store.{storeLength}
-use Rattle.chip.specs.Refusal.{fault}
 use Rattle.chip.specs.State.{goodState}
-use Rattle.chip.specs.declared.refusal.Refusal.the-variants.{StoreLength, BadState}
 use Rattle.chip.specs.declared.state.State.{State}
 
 -- the state, and the words of the lent store

@@ -5,6 +5,7 @@ use lib.Dec.{ltb}
 use lib.ListN.{length, set}
 use Rattle.rules.specs.Rule.{Outcome, ok, refused}
 use Rattle.rules.specs.Faults.{Numbered, unless}
+use Rattle.refusals.specs.Refusal.{numbered}
 use Rattle.timing.specs.Signals.{signalsAt}
 use Rattle.timing.specs.Move.{nextPosition}
 use Rattle.timing.specs.declared.Signals.{Signals}
@@ -12,7 +13,6 @@ use Rattle.registers.specs.Store.{storeIndex}
 use Rattle.registers.specs.declared.Block.the-variants.{ColourMap}
 use Rattle.queue.specs.Queue.{oldest, popped}
 use Rattle.queue.specs.declared.Waiting.{Waiting}
-use Rattle.chip.specs.Refusal.{numbered}
 use Rattle.chip.specs.State.{controlWord, windowsOf, withPosition, withQueue}
 use Rattle.chip.specs.Call.{Chip, callFaults}
 use Rattle.chip.specs.declared.state.State.{State}

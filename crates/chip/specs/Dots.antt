@@ -3,7 +3,7 @@ use Prim.Native.Nat.{ℕ, zero, suc}
 use lib.ListN.{length}
 use Rattle.rules.specs.Rule.{Outcome, ok, refused}
 use Rattle.rules.specs.Faults.{Numbered, unless}
-use Rattle.chip.specs.Refusal.{numbered}
+use Rattle.refusals.specs.Refusal.{numbered}
 use Rattle.chip.specs.Call.{Chip, callFaults}
 use Rattle.chip.specs.Dot.{signalsOf, afterDot}
 use Rattle.chip.specs.declared.dots.Report.{Report}

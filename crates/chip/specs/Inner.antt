@@ -4,11 +4,11 @@ use mathlib.Core.Path.{_≡_}
 use mathlib.Core.Bool.{true, cond}
 use lib.Dec.{eqb}
 use lib.ListN.{length}
+use Rattle.refusals.specs.declared.Refusal.the-variants.{StoreLength, BadState}
 use Rattle.registers.specs.Store.{storeLength}
 use Rattle.chip.specs.State.{goodState}
 use Rattle.chip.specs.Call.{Chip}
 use Rattle.chip.specs.Dots.{afterDots}
-use Rattle.chip.specs.declared.refusal.Refusal.the-variants.{StoreLength, BadState}
 use Rattle.chip.specs.declared.state.State.{State}
 use Rattle.chip.specs.declared.state.Fit.{Fit}
 use Rattle.chip.specs.declared.state.Fit.the-variants.{Yes, Refused}

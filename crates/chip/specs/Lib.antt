@@ -1,4 +1,3 @@
-pub mod Refusal
 pub mod State
 pub mod Call
 pub mod Write

@@ -3,22 +3,21 @@ use Prim.Native.Nat.{ℕ, _+_, _*_, _^_}
 use mathlib.Core.Bool.{true, cond}
 use mathlib.Core.List.{List, [], _∷_, _++_}
 use lib.Dec.{eqb}
-use lib.ListN.{length, getD}
+use lib.ListN.{length}
 use Rattle.rules.specs.Rule.{Outcome, ok, refused}
 use Rattle.rules.specs.Faults.{Numbered, Fault, unless}
+use Rattle.refusals.specs.Refusal.{numbered, fault}
+use Rattle.refusals.specs.declared.Refusal.the-variants.{NoRegister}
 use Rattle.registers.specs.Named.{placeOf, named}
-use Rattle.registers.specs.Kept.{keptOf}
-use Rattle.registers.specs.Store.{storeIndex}
+use Rattle.registers.specs.Store.{stored}
 use Rattle.registers.specs.declared.Block.{Block}
 use Rattle.registers.specs.declared.Block.the-variants.{Control, WindowEntries, ColourMap, GammaMap, CursorGlyph, CursorColours}
 use Rattle.registers.specs.declared.Register.{Register}
 use Rattle.registers.specs.declared.Named.{Named}
 use Rattle.registers.specs.declared.Named.the-variants.{Is, Nothing}
 use Rattle.queue.specs.Queue.{room}
-use Rattle.chip.specs.Refusal.{numbered, fault}
 use Rattle.chip.specs.State.{controlWord}
 use Rattle.chip.specs.Call.{Chip, callFaults}
-use Rattle.chip.specs.declared.refusal.Refusal.the-variants.{NoRegister}
 use Rattle.chip.specs.declared.state.State.{State}
 use Rattle.chip.specs.declared.read.Answer.{Answer}
 use Rattle.chip.specs.declared.read.Answer.the-variants.{Word, Refused}
@@ -34,10 +33,6 @@ shownOfControl state word =
     cond (eqb word 9) (room (state .queue))
     (cond (eqb word 10) (state .at .y * 2 ^ 16 + state .at .x)
     (controlWord state word))
-
--- the stored word's kept bits
-abbrev pub stored : List ℕ → Register → ℕ
-stored store register = keptOf register (getD store (storeIndex register) 0)
 
 -- a control word is the state's, every other word is the stored one, not a waiting one
 abbrev pub shownIn : Chip → Block → Register → ℕ

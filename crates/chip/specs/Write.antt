@@ -6,6 +6,8 @@ use lib.Dec.{leb}
 use lib.ListN.{length, set}
 use Rattle.rules.specs.Rule.{Outcome, ok, refused}
 use Rattle.rules.specs.Faults.{Numbered, Fault, unless}
+use Rattle.refusals.specs.Refusal.{numbered, fault}
+use Rattle.refusals.specs.declared.Refusal.the-variants.{NoRegister, ReadOnly, StrayBits, QueueFull}
 use Rattle.registers.specs.Named.{placeOf, named}
 use Rattle.registers.specs.Kept.{fits}
 use Rattle.registers.specs.Store.{storeIndex}
@@ -15,10 +17,8 @@ use Rattle.registers.specs.declared.Register.{Register}
 use Rattle.registers.specs.declared.Named.{Named}
 use Rattle.registers.specs.declared.Named.the-variants.{Is, Nothing}
 use Rattle.queue.specs.Queue.{full, pushed}
-use Rattle.chip.specs.Refusal.{numbered, fault}
 use Rattle.chip.specs.State.{withWord, withQueue}
 use Rattle.chip.specs.Call.{Chip, callFaults}
-use Rattle.chip.specs.declared.refusal.Refusal.the-variants.{NoRegister, ReadOnly, StrayBits, QueueFull}
 use Rattle.chip.specs.declared.state.State.{State}
 use Rattle.chip.specs.declared.write.Answer.{Answer}
 use Rattle.chip.specs.declared.write.Answer.the-variants.{Done, Refused}

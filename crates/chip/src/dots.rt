@@ -7,9 +7,9 @@ ghost use Rattle.registers.specs.Store.{storeLength};
 ghost use Rattle.chip.specs.State.{goodState, withPosition};
 ghost use Rattle.chip.specs.Dots.{told, afterDots, ran};
 ghost use Rattle.chip.specs.Inner.{Leapt};
-use crate::refusal::Refusal;
 use crate::state::Fit;
 use crate::state::State;
+use refusals::Refusal;
 use timing::Position;
 use timing::Signals;
 

@@ -2,6 +2,5 @@
 pub mod dot;
 pub mod dots;
 pub mod read;
-pub mod refusal;
 pub mod state;
 pub mod write;

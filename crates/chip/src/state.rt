@@ -2,8 +2,8 @@
 ghost use mathlib.Core.Path.{_≡_};
 ghost use Rattle.chip.specs.State.{fresh, goodWords, goodState, windowsOf};
 ghost use Rattle.chip.specs.Inner.{fit};
-use crate::refusal::Refusal;
 use queue::Queue;
+use refusals::Refusal;
 use registers::Block;
 use registers::Register;
 use timing::Position;

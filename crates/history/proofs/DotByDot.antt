@@ -4,6 +4,7 @@ use mathlib.Core.Path.{_≡_, refl, ap, sym, _∙_}
 use lib.ListN.{length, replicate}
 use Rattle.rules.specs.Rule.{Outcome, ok, refused}
 use Rattle.rules.specs.Faults.{Numbered}
+use Rattle.refusals.specs.declared.Refusal.{Refusal}
 use Rattle.timing.specs.declared.Signals.{Signals}
 use Rattle.chip.specs.State.{Whole}
 use Rattle.chip.specs.Call.{Chip}
@@ -12,7 +13,6 @@ use Rattle.chip.specs.Dots.{afterDots, lastReport, ran}
 use Rattle.chip.specs.Inner.{fit}
 use Rattle.chip.specs.declared.dots.Report.{Report}
 use Rattle.chip.specs.declared.dots.Report.the-variants.{Last}
-use Rattle.chip.specs.declared.refusal.Refusal.{Refusal}
 use Rattle.chip.specs.declared.state.Fit.{Fit}
 use Rattle.chip.specs.declared.state.Fit.the-variants.{Yes, Refused}
 use Rattle.chip.proofs.Good.{dot-length, dot-whole, dot-good, dots-length, dots-good}

@@ -1,7 +1,10 @@
 -- The store: every block but control, in the table's order.
 use Prim.Native.Nat.{ℕ, _+_}
 use mathlib.Core.Bool.{Bool, true, false}
+use mathlib.Core.List.{List}
+use lib.ListN.{getD}
 use Rattle.registers.specs.Blocks.{count}
+use Rattle.registers.specs.Kept.{keptOf}
 use Rattle.registers.specs.declared.Block.{Block}
 use Rattle.registers.specs.declared.Block.the-variants.{Control, WindowEntries, ColourMap, GammaMap, CursorGlyph, CursorColours}
 use Rattle.registers.specs.declared.Register.{Register}
@@ -31,3 +34,7 @@ storeLength = storeStart CursorColours + count CursorColours
 -- where a register stands in the store
 abbrev pub storeIndex : Register → ℕ
 storeIndex register = storeStart (register .block) + register .word
+
+-- the kept bits of a register's word in a store
+abbrev pub stored : List ℕ → Register → ℕ
+stored store register = keptOf register (getD store (storeIndex register) 0)

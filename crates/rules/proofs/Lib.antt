@@ -7,4 +7,6 @@ pub mod Each
 pub mod Fill
 pub mod Asks
 pub mod Faults
+pub mod Checked
+pub mod Value
 pub mod Unique

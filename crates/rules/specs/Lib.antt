@@ -4,4 +4,5 @@ pub mod Lists
 pub mod Each
 pub mod Asks
 pub mod Faults
+pub mod Checked
 pub mod Unique

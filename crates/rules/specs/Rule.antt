@@ -65,3 +65,10 @@ module _ {R A : Type 0} where
   abbrev pub renamed : {S : Type 0} → (R → S) → Outcome R A → Outcome S A
   renamed name (ok answer) = ok answer
   renamed name (refused refusal) = refused (name refusal)
+
+module _ {Q A : Type 0} where
+  -- the answer of a rule that has no refusals
+  abbrev pub value : (Q → ℕ) → Rule ⊥ Q A → A
+  value memory (done answer) = answer
+  value memory (stop refusal) = absurd refusal
+  value memory (ask cell next) = value memory (next (memory cell))

@@ -3,9 +3,9 @@ use Prim.Native.Nat.{ℕ}
 use mathlib.Core.Path.{ap, sym, _∙_}
 use borrow.Author.Needs.{needs}
 use Rattle.rules.specs.Rule.{ok, refused}
+use Rattle.refusals.specs.Refusal.{numbered}
+use Rattle.refusals.specs.declared.Refusal.the-variants.{NoRegister}
 use Rattle.registers.proofs.Naming.{named-word}
-use Rattle.chip.specs.Refusal.{numbered}
-use Rattle.chip.specs.declared.refusal.Refusal.the-variants.{NoRegister}
 use Rattle.chip.proofs.Fit.{fit-says}
 use Rattle.chip.proofs.Readings.{read-unfit, read-nowhere, read-shown}
 use Rattle.chip.proofs.state.State.read.Statement.{statement}

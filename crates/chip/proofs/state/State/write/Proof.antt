@@ -8,16 +8,16 @@ use borrow.Author.Tests.{not-true, not-false}
 use lib.ListN.{length}
 use Rattle.rules.specs.Rule.{Outcome, ok, refused}
 use Rattle.rules.specs.Faults.{Numbered}
+use Rattle.refusals.specs.Refusal.{numbered}
+use Rattle.refusals.specs.declared.Refusal.{Refusal}
+use Rattle.refusals.specs.declared.Refusal.the-variants.{NoRegister, ReadOnly, StrayBits, QueueFull}
 use Rattle.registers.specs.Named.{named}
 use Rattle.registers.specs.Kept.{fits}
 use Rattle.registers.specs.declared.Named.the-variants.{Is}
 use Rattle.registers.proofs.Naming.{named-word}
-use Rattle.chip.specs.Refusal.{numbered}
 use Rattle.chip.specs.Call.{Chip}
 use Rattle.chip.specs.Write.{readOnly, told}
 use Rattle.chip.specs.Inner.{fit}
-use Rattle.chip.specs.declared.refusal.Refusal.{Refusal}
-use Rattle.chip.specs.declared.refusal.Refusal.the-variants.{NoRegister, ReadOnly, StrayBits, QueueFull}
 use Rattle.chip.specs.declared.state.State.{State}
 use Rattle.chip.specs.declared.state.Fit.the-variants.{Yes}
 use Rattle.chip.specs.declared.write.Answer.the-variants.{Refused}

@@ -1,0 +1,51 @@
+-- A refusal is known by its number and values. Assumes nothing.
+use Prim.Native.Nat.{ℕ}
+use mathlib.Core.Path.{_≡_, refl}
+use mathlib.Core.List.{List, [], _∷_}
+use lib.ListN.{getD}
+use Rattle.rules.specs.Faults.{Numbered, placeIn}
+use Rattle.refusals.specs.Refusal.{numbered}
+use Rattle.refusals.specs.declared.Refusal.{Refusal}
+use Rattle.refusals.specs.declared.Refusal.the-variants.{NoRegister, ReadOnly, StrayBits, QueueFull, StoreLength, TableLength, NormalLength, OverlayLength, OutputLength, BelowActive, NoFrameEntry, NoLineEntry, UndefinedEntry, AboveTotal, BadState}
+
+-- the refusals of a wrong length, in the order of their places
+abbrev wrongLengths : List Refusal
+wrongLengths = BadState ∷ StoreLength ∷ TableLength ∷ NormalLength ∷ OverlayLength ∷ OutputLength ∷ []
+
+-- the refusals at a place, in the order of their numbers
+abbrev refusalsAt : ℕ → List Refusal
+refusalsAt place =
+    BadState
+    ∷ NoRegister place
+    ∷ ReadOnly place
+    ∷ StrayBits place
+    ∷ QueueFull place
+    ∷ getD wrongLengths place BadState
+    ∷ BelowActive place
+    ∷ NoFrameEntry place
+    ∷ NoLineEntry place
+    ∷ UndefinedEntry place
+    ∷ AboveTotal
+    ∷ []
+
+-- the refusal of a number and its values
+abbrev pub refusalOf : Numbered → Refusal
+refusalOf said = getD (refusalsAt (placeIn said)) (said .number) BadState
+
+-- no two refusals say the same
+pub known : (refusal : Refusal) → refusalOf (numbered refusal) ≡ refusal
+known (NoRegister address) = refl
+known (ReadOnly address) = refl
+known (StrayBits address) = refl
+known (QueueFull address) = refl
+known StoreLength = refl
+known TableLength = refl
+known NormalLength = refl
+known OverlayLength = refl
+known OutputLength = refl
+known (BelowActive y) = refl
+known (NoFrameEntry y) = refl
+known (NoLineEntry x) = refl
+known (UndefinedEntry x) = refl
+known AboveTotal = refl
+known BadState = refl

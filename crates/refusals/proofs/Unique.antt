@@ -1,0 +1,11 @@
+-- No second answer meets a contract of this crate. Assumes nothing.
+use Rattle.rules.specs.Unique.{OneAnswer}
+use Rattle.rules.proofs.Unique.{by-equation}
+use Rattle.refusals.proofs.Refusal.number.Reads as number
+use Rattle.refusals.proofs.Refusal.place.Reads as place
+
+pub number-unique : OneAnswer number.Post
+number-unique = by-equation _ _
+
+pub place-unique : OneAnswer place.Post
+place-unique = by-equation _ _

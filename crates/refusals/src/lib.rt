@@ -1,0 +1,70 @@
+// The refusals of every call on the chip, and the paper's number and place of each.
+ghost use mathlib.Core.Path.{_≡_};
+ghost use Rattle.refusals.specs.Refusal.{numberOf, placeOf};
+
+// Why a call is refused. The first four hold the address, 24 bits of it; 6 and 7 the line, 8 and 9 the pixel.
+pub enum Refusal {
+    NoRegister(u32),
+    ReadOnly(u32),
+    StrayBits(u32),
+    QueueFull(u32),
+    StoreLength,
+    TableLength,
+    NormalLength,
+    OverlayLength,
+    OutputLength,
+    BelowActive(u32),
+    NoFrameEntry(u32),
+    NoLineEntry(u32),
+    UndefinedEntry(u32),
+    AboveTotal,
+    BadState,
+}
+
+impl Refusal {
+    // Its number.
+    pub fn number(self) -> u32
+        ensures { λ r. ⌜ r ≡ numberOf self ⌝ }
+    {
+        match self {
+            Refusal::NoRegister(_) => 1,
+            Refusal::ReadOnly(_) => 2,
+            Refusal::StrayBits(_) => 3,
+            Refusal::QueueFull(_) => 4,
+            Refusal::StoreLength => 5,
+            Refusal::TableLength => 5,
+            Refusal::NormalLength => 5,
+            Refusal::OverlayLength => 5,
+            Refusal::OutputLength => 5,
+            Refusal::BelowActive(_) => 6,
+            Refusal::NoFrameEntry(_) => 7,
+            Refusal::NoLineEntry(_) => 8,
+            Refusal::UndefinedEntry(_) => 9,
+            Refusal::AboveTotal => 10,
+            Refusal::BadState => 11,
+        }
+    }
+
+    // Its place.
+    pub fn place(self) -> u32
+        ensures { λ r. ⌜ r ≡ placeOf self ⌝ }
+    {
+        match self {
+            Refusal::NoRegister(address) => address,
+            Refusal::ReadOnly(address) => address,
+            Refusal::StrayBits(address) => address,
+            Refusal::QueueFull(address) => address,
+            Refusal::StoreLength => 1,
+            Refusal::TableLength => 2,
+            Refusal::NormalLength => 3,
+            Refusal::OverlayLength => 4,
+            Refusal::OutputLength => 5,
+            Refusal::BelowActive(y) => y,
+            Refusal::NoFrameEntry(y) => y,
+            Refusal::NoLineEntry(x) => x,
+            Refusal::UndefinedEntry(x) => x,
+            Refusal::AboveTotal => 0,
+            Refusal::BadState => 0,
+        }
+    }
+}

@@ -1,0 +1,39 @@
+-- Rules without refusals: their values, put together as the rules are. Assumes nothing.
+use Prim.Native.Nat.{ℕ}
+use mathlib.Core.Bool.{Bool, true, false, cond}
+use mathlib.Core.Path.{_≡_, refl}
+use Rattle.rules.specs.Rule.{Rule, done, stop, ask, ok, run, _>>=_, within, value}
+use Rattle.rules.specs.Asks.{NeverRefuses}
+
+module _ {Q A B : Type 0} (memory : Q → ℕ) where
+  -- the value of one rule and then another
+  pub value-then : (rule : Rule ⊥ Q A) (after : A → Rule ⊥ Q B) → value memory (rule >>= after) ≡ value memory (after (value memory rule))
+  value-then (done answer) after = refl
+  value-then (stop refusal) after = absurd refusal
+  value-then (ask cell next) after = value-then (next (memory cell)) after
+
+module _ {Q A : Type 0} (memory : Q → ℕ) where
+  -- the value of a rule by a test
+  pub value-cond : (test : Bool) (yes-rule no-rule : Rule ⊥ Q A)
+      → value memory (cond test yes-rule no-rule) ≡ cond test (value memory yes-rule) (value memory no-rule)
+  value-cond true yes-rule no-rule = refl
+  value-cond false yes-rule no-rule = refl
+
+  -- the outcome is the value
+  pub run-value : (rule : Rule ⊥ Q A) → run memory rule ≡ ok (value memory rule)
+  run-value (done answer) = refl
+  run-value (stop refusal) = absurd refusal
+  run-value (ask cell next) = run-value (next (memory cell))
+
+module _ {S P Q A : Type 0} (name : ⊥ → S) (into : P → Q) where
+  -- taken into more cells and refusals, the outcome is the value
+  pub run-within-value : (memory : Q → ℕ) (rule : Rule ⊥ P A) → run memory (within name into rule) ≡ ok (value (λ cell. memory (into cell)) rule)
+  run-within-value memory (done answer) = refl
+  run-within-value memory (stop refusal) = absurd refusal
+  run-within-value memory (ask cell next) = run-within-value memory (next (memory (into cell)))
+
+  -- and it still refuses nothing
+  pub never-within : (rule : Rule ⊥ P A) → NeverRefuses (within name into rule)
+  never-within (done answer) = tt
+  never-within (stop refusal) = absurd refusal
+  never-within (ask cell next) = λ held. never-within (next held)
