@@ -2,6 +2,7 @@
 
 #[path = "../tests/library.rs"]
 mod library;
+mod measure;
 #[path = "../tests/model/mod.rs"]
 mod model;
 
@@ -11,12 +12,6 @@ use std::time::{Duration, Instant};
 use model::chip::State;
 use model::queue::{Queue, Waiting};
 use model::registers::STORE_WORDS;
-
-/// How often each row is measured, library and model in turn; the best time of each counts.
-const REPETITIONS: u32 = 15;
-
-/// How long one repetition takes at least: as many calls as it needs.
-const REPETITION: Duration = Duration::from_millis(5);
 
 /// The longest run that a session file has.
 const LONGEST_RUN: u32 = 16_777_216;
@@ -28,21 +23,10 @@ const RUN: u32 = 4_194_304;
 const FRAME: u32 = 1688 * 1066;
 
 fn main() {
-    println!("nanoseconds of a call, or of a dot where a row says so; best of {REPETITIONS} repetitions");
-    println!("{:<64}{:>16}{:>16}{:>12}", "what", "proved library", "Rust model", "ratio");
+    measure::print_head("nanoseconds of a call, or of a dot where a row says so");
     for row in rows() {
         row.same_work();
-        let (library, model) = row.nanoseconds();
-        println!("{:<64}{:>16}{:>16}{:>12}", row.what, shown(library), shown(model), shown(library / model));
-    }
-}
-
-/// A number with about three digits that count.
-fn shown(number: f64) -> String {
-    match number {
-        100.0.. => format!("{number:.0}"),
-        0.01.. => format!("{number:.2}"),
-        _ => format!("{number:.1e}"),
+        measure::print_row(row.what, row.nanoseconds());
     }
 }
 
@@ -153,23 +137,9 @@ impl Row {
 
     /// The best times of library and model.
     fn nanoseconds(&self) -> (f64, f64) {
-        let (library_times, model_times) = (self.times(self.library), self.times(self.model));
-        let (mut library, mut model) = (f64::INFINITY, f64::INFINITY);
-        for _ in 0..REPETITIONS {
-            library = library.min(self.time(self.library, library_times).as_secs_f64());
-            model = model.min(self.time(self.model, model_times).as_secs_f64());
-        }
-        let each = |seconds: f64, times: u32| seconds * 1e9 / f64::from(times) / f64::from(self.dots);
-        (each(library, library_times), each(model, model_times))
-    }
-
-    /// How many times the work fills a repetition.
-    fn times(&self, work: fn(&mut Chip)) -> u32 {
-        let mut times = 1;
-        while self.time(work, times) < REPETITION {
-            times *= 2;
-        }
-        times
+        let (library, model) =
+            measure::nanoseconds(|times| self.time(self.library, times), |times| self.time(self.model, times));
+        (library / f64::from(self.dots), model / f64::from(self.dots))
     }
 
     fn time(&self, work: fn(&mut Chip), times: u32) -> Duration {

@@ -9,9 +9,10 @@
 extern "C" {
 #endif
 
-/* How many words the lent store has, and how many colour writes can wait. */
+/* How many words the lent store has, how many colour writes can wait, and how many bytes a table of window IDs has at most. */
 #define BULITAMPAW_STORE_WORDS 4963
 #define BULITAMPAW_QUEUE_SLOTS 64
+#define BULITAMPAW_TABLE_BYTES 65536
 
 /* Where the beam is. */
 typedef struct {
@@ -37,7 +38,7 @@ typedef struct {
 } bulitampaw_state;
 
 /* In every answer: number 0 says that the call was done; else it is the refusal's number, and the place stands beside it.
-   A refused call hands the state back as it was and leaves every word of the store. */
+   A refused call hands the state back as it was and leaves all that it was lent. */
 
 /* What a write answers. */
 typedef struct {
@@ -57,6 +58,12 @@ typedef struct {
     uint32_t number, place, reported, hsync, vsync, blank;
 } bulitampaw_dotted;
 
+/* What a line answers. */
+typedef struct {
+    bulitampaw_state state;
+    uint32_t number, place;
+} bulitampaw_drawn;
+
 /* A fresh state: all zero, nothing waiting. */
 bulitampaw_state bulitampaw_fresh(void);
 
@@ -71,6 +78,17 @@ bulitampaw_dotted bulitampaw_dot(bulitampaw_state state, uint32_t *store, size_t
 
 /* So many dots, one after the other; of none nothing is reported. Refused by 11 or 5. */
 bulitampaw_dotted bulitampaw_dots(bulitampaw_state state, uint32_t *store, size_t length, uint32_t count);
+
+/* Draws line y: the first words of the output, as many as the active width, become its colours, and the words past them stay.
+   Each colour has red in bits 23..16, green in 15..8 and blue in 7..0. Neither state nor store change.
+   Where window IDs are off the table isn't looked at; else it has 65,536 bytes at most. The normal row has exactly 2 bytes a pixel
+   at depth 16, 4 at depth 32, big-endian. Where overlay is off its row isn't looked at; else it has exactly one
+   byte a pixel. The output has at least one word a pixel, and overlaps nothing else that is lent.
+   Refused by 11, 10, 6, 5, 7, and then by 8 or 9 at the first pixel from the left that has either fault. Number 5 has the place
+   1 for the store, 2 for the table, 3 for the normal row, 4 for the overlay row, 5 for the output; the lowest is told. */
+bulitampaw_drawn bulitampaw_line(bulitampaw_state state, uint32_t y, const uint32_t *store, size_t store_length,
+    const uint8_t *table, size_t table_length, const uint8_t *normal, size_t normal_length,
+    const uint8_t *overlay, size_t overlay_length, uint32_t *output, size_t output_length);
 
 /* Whether a window entry is defined at a depth: 1 or 0. The low 13 bits of the entry count. At a depth other than 16 or 32 the answer is 0. */
 uint32_t bulitampaw_entry_defined(uint32_t entry, uint32_t depth);

@@ -11,6 +11,7 @@ mod pair;
 mod sequences;
 #[path = "chip/show.rs"]
 mod show;
+mod states;
 #[path = "chip/tally.rs"]
 mod tally;
 #[path = "chip/vectors/mod.rs"]

@@ -1,5 +1,8 @@
 //! The chip of the proved library, called as C calls it.
 
+// Each test uses a part of it.
+#![allow(dead_code)]
+
 use crate::model::chip::State;
 
 /// What a write answers.
@@ -34,6 +37,15 @@ pub struct Dotted {
     pub blank: u32,
 }
 
+/// What a line answers.
+#[repr(C)]
+#[derive(Clone, Copy)]
+pub struct Drawn {
+    pub state: State,
+    pub number: u32,
+    pub place: u32,
+}
+
 #[link(name = "emulator", kind = "static")]
 extern "C" {
     fn bulitampaw_fresh() -> State;
@@ -41,6 +53,20 @@ extern "C" {
     fn bulitampaw_read(state: State, store: *const u32, length: usize, address: u32) -> ReadBack;
     fn bulitampaw_dot(state: State, store: *mut u32, length: usize) -> Dotted;
     fn bulitampaw_dots(state: State, store: *mut u32, length: usize, count: u32) -> Dotted;
+    fn bulitampaw_line(
+        state: State,
+        y: u32,
+        store: *const u32,
+        store_length: usize,
+        table: *const u8,
+        table_length: usize,
+        normal: *const u8,
+        normal_length: usize,
+        overlay: *const u8,
+        overlay_length: usize,
+        output: *mut u32,
+        output_length: usize,
+    ) -> Drawn;
 }
 
 pub fn fresh() -> State {
@@ -67,4 +93,34 @@ pub fn dot(state: State, store: &mut [u32]) -> Dotted {
 pub fn dots(state: State, store: &mut [u32], count: u32) -> Dotted {
     // SAFETY: as above.
     unsafe { bulitampaw_dots(state, store.as_mut_ptr(), store.len(), count) }
+}
+
+/// What a line is lent, all borrowed as what may change, so that the caller may look whether it did.
+pub struct Lent<'a> {
+    pub store: &'a mut [u32],
+    pub table: &'a mut [u8],
+    pub normal: &'a mut [u8],
+    pub overlay: &'a mut [u8],
+    pub output: &'a mut [u32],
+}
+
+pub fn line(state: State, y: u32, lent: Lent) -> Drawn {
+    let Lent { store, table, normal, overlay, output } = lent;
+    // SAFETY: each part is lent for the call with its own length, and no two overlap.
+    unsafe {
+        bulitampaw_line(
+            state,
+            y,
+            store.as_mut_ptr(),
+            store.len(),
+            table.as_mut_ptr(),
+            table.len(),
+            normal.as_mut_ptr(),
+            normal.len(),
+            overlay.as_mut_ptr(),
+            overlay.len(),
+            output.as_mut_ptr(),
+            output.len(),
+        )
+    }
 }

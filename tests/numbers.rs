@@ -1,5 +1,8 @@
 //! Numbers that look random, from a seed.
 
+// Each test uses a part of it.
+#![allow(dead_code)]
+
 pub struct Numbers(u64);
 
 impl Numbers {
@@ -12,5 +15,17 @@ impl Numbers {
         self.0 ^= self.0 >> 7;
         self.0 ^= self.0 << 17;
         (self.0 >> 32) as u32
+    }
+
+    pub fn below(&mut self, bound: u32) -> u32 {
+        self.next() % bound
+    }
+
+    pub fn one_in(&mut self, times: u32) -> bool {
+        self.below(times) == 0
+    }
+
+    pub fn pick<T: Copy>(&mut self, from: &[T]) -> T {
+        from[self.below(from.len() as u32) as usize]
     }
 }

@@ -8,20 +8,6 @@ use crate::numbers::Numbers;
 use crate::pair::{Call, Fill};
 use crate::sequences::{Damage, Sequence, Step};
 
-impl Numbers {
-    pub fn below(&mut self, bound: u32) -> u32 {
-        self.next() % bound
-    }
-
-    fn one_in(&mut self, times: u32) -> bool {
-        self.below(times) == 0
-    }
-
-    fn pick<T: Copy>(&mut self, from: &[T]) -> T {
-        from[self.below(from.len() as u32) as usize]
-    }
-}
-
 /// A sequence from a state that keeps its rule, some of its calls lent what they refuse.
 pub fn sequence(numbers: &mut Numbers) -> Sequence {
     let start = if numbers.one_in(3) { State::FRESH } else { good_state(numbers) };

@@ -1,9 +1,7 @@
-//! Calls, states and differences in words.
+//! Calls and differences in words.
 
 use std::fmt;
 
-use crate::model::chip::State;
-use crate::model::queue::Waiting;
 use crate::model::registers::STORE_WORDS;
 use crate::pair::{Answer, Call, Difference};
 use crate::sequences::{Damage, Sequence, Step};
@@ -16,20 +14,6 @@ impl fmt::Display for Call {
             Self::Dot => write!(f, "one dot"),
             Self::Dots { count } => write!(f, "{count} dots"),
         }
-    }
-}
-
-impl fmt::Display for State {
-    fn fmt(&self, f: &mut fmt::Formatter) -> fmt::Result {
-        write!(f, "control")?;
-        for word in self.control {
-            write!(f, " {word:08x}")?;
-        }
-        write!(f, ", at {} {}, {} waiting, slots", self.at.x, self.at.y, self.queue.waiting)?;
-        for (number, slot) in self.queue.slots.iter().enumerate().filter(|(_, &slot)| slot != Waiting::NONE) {
-            write!(f, " [{number}] {} {:06x}", slot.entry, slot.colour)?;
-        }
-        Ok(())
     }
 }
 

@@ -82,7 +82,8 @@ impl State {
         }
     }
 
-    fn good(&self) -> bool {
+    /// Whether the state keeps its rule.
+    pub fn good(&self) -> bool {
         let stray = self.control.iter().zip(CONTROL_KEPT).any(|(word, kept)| word & !kept != 0);
         !stray && self.at.x <= 4095 && self.at.y <= 4095 && self.queue.good()
     }

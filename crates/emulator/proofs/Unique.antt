@@ -7,6 +7,7 @@ use Rattle.emulator.proofs.calls.bulitampaw_write.Reads as write
 use Rattle.emulator.proofs.calls.bulitampaw_read.Reads as read
 use Rattle.emulator.proofs.calls.bulitampaw_dot.Reads as dot
 use Rattle.emulator.proofs.calls.bulitampaw_dots.Reads as dots
+use Rattle.emulator.proofs.calls.bulitampaw_line.Reads as line
 use Rattle.emulator.proofs.questions.bulitampaw_entry_defined.Reads as entry-defined
 use Rattle.emulator.proofs.questions.bulitampaw_signal_holds.Reads as signal-holds
 
@@ -30,3 +31,6 @@ dot-unique = by-pair _ (λ k exit. now (exit .1 .0)) _
 
 pub dots-unique : OneOutcome (λ k exit. now (exit .1 .0)) dots.Post
 dots-unique = by-pair _ (λ k exit. now (exit .1 .0)) _
+
+pub line-unique : OneOutcome (λ k exit. now (exit .1 .1 .1 .1 .1 .1 .0)) line.Post
+line-unique = by-pair _ (λ k exit. now (exit .1 .1 .1 .1 .1 .1 .0)) _

@@ -1,4 +1,4 @@
--- What C is answered by the chip's calls: 0 for done, or the refusal's number and its place.
+-- What C is answered by a call: 0 for done, or the refusal's number and its place.
 use Prim.Native.Nat.{ℕ}
 use mathlib.Core.List.{List}
 use Rattle.rules.specs.Rule.{Outcome, ok, refused}
@@ -12,10 +12,13 @@ use Rattle.chip.specs.Dots.{ran}
 use Rattle.chip.specs.declared.state.State.{State}
 use Rattle.chip.specs.declared.dots.Report.{Report}
 use Rattle.chip.specs.declared.dots.Report.the-variants.{Nothing, Last}
+use Rattle.line.specs.Cells.{Lent}
+use Rattle.line.specs.Drawn.{drawn}
 use Rattle.emulator.specs.Answers.{number}
 use Rattle.emulator.specs.declared.calls.Written.{Written}
 use Rattle.emulator.specs.declared.calls.ReadBack.{ReadBack}
 use Rattle.emulator.specs.declared.calls.Dotted.{Dotted}
+use Rattle.emulator.specs.declared.calls.Drawn.{Drawn}
 
 -- a write
 abbrev pub writeAnswer : State → Outcome Numbered (Unit {0}) → Written
@@ -73,3 +76,12 @@ dotsAnswer state (refused refusal) = unreported state (refusal .number) (placeIn
 -- what it answers, and the words of the store after it
 unfoldable pub ranInNumbers : Chip → ℕ → Dotted × List ℕ
 ranInNumbers chip count = let all = ran chip count in (dotsAnswer (all .0 .0) (all .1), all .0 .1)
+
+-- a line
+abbrev pub lineAnswer : State → Outcome Numbered (Unit {0}) → Drawn
+lineAnswer state (ok done) = record { state = state; number = 0; place = 0 }
+lineAnswer state (refused refusal) = record { state = state; number = refusal .number; place = placeIn refusal }
+
+-- what it answers, and the words of the output after it
+unfoldable pub drawnInNumbers : State → ℕ → Lent → List ℕ → Drawn × List ℕ
+drawnInNumbers state y lent output = let all = drawn state y lent output in (lineAnswer (all .0 .0) (all .1), all .0 .1)

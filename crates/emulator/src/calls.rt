@@ -1,8 +1,9 @@
-// What C calls on the chip: the state goes and comes by value, the store is lent, and a refusal is its number and place.
+// What C calls: the state goes and comes by value, memory is lent, and a refusal is its number and place.
 ghost use mathlib.Core.Path.{_≡_};
 ghost use Rattle.chip.specs.State.{fresh};
+ghost use Rattle.line.specs.Cells.{lentOf};
 ghost use Rattle.emulator.specs.Answers.{number};
-ghost use Rattle.emulator.specs.Calls.{writtenInNumbers, readInNumbers, reportedBy, unreported, dottedInNumbers, ranInNumbers};
+ghost use Rattle.emulator.specs.Calls.{writtenInNumbers, readInNumbers, reportedBy, unreported, dottedInNumbers, ranInNumbers, drawnInNumbers};
 use chip::dots::Report;
 use chip::state::State;
 use timing::Signals;
@@ -34,6 +35,14 @@ pub struct Dotted {
     pub hsync: u32,
     pub vsync: u32,
     pub blank: u32,
+}
+
+// What a line answers. Number 0: it was drawn.
+#[repr(C)]
+pub struct Drawn {
+    pub state: State,
+    pub number: u32,
+    pub place: u32,
 }
 
 // A fresh state: all zero, its queue empty.
@@ -160,5 +169,35 @@ pub extern "C" fn bulitampaw_dots(state: State, store: &mut [u32], count: u32) -
             Report::Last(signals) => reported(next, signals),
         },
         chip::dots::Answer::Refused(refusal) => unreported(next, refusal.number(), refusal.place()),
+    }
+}
+
+// One drawn line.
+#[no_mangle]
+pub extern "C" fn bulitampaw_line(
+    state: State,
+    y: u32,
+    store: &[u32],
+    table: &[u8],
+    normal: &[u8],
+    overlay: &[u8],
+    output: &mut [u32],
+) -> Drawn
+    ensures { λ r. ⌜ (r, now (output .exit)) ≡ drawnInNumbers state y (lentOf (now (store .entry)) (now (table .entry)) (now (normal .entry)) (now (overlay .entry))) (now (output .entry)) ⌝ }
+{
+    let drawn = line::draw::draw(state, y, store, table, normal, overlay, output);
+    let next = drawn.state;
+    let answer = drawn.answer;
+    match answer {
+        line::draw::Answer::Drawn => Drawn {
+            state: next,
+            number: 0,
+            place: 0,
+        },
+        line::draw::Answer::Refused(refusal) => Drawn {
+            state: next,
+            number: refusal.number(),
+            place: refusal.place(),
+        },
     }
 }

@@ -6,51 +6,56 @@ use mathlib.Core.List.{List, [], _∷_}
 use Rattle.rules.specs.Rule.{Outcome, ok, refused, stop, run, reads}
 use Rattle.rules.specs.Faults.{Numbered, Fault, Clear, First, unless}
 use Rattle.rules.specs.Asks.{Asks}
-use Rattle.rules.specs.Checked.{checked}
+use Rattle.rules.specs.Checked.{checked, verdict}
 use Rattle.rules.proofs.Then.{run-cond, reads-cond}
 use Rattle.rules.proofs.Asks.{asks-cond}
 use Rattle.rules.proofs.Faults.{none-holds, first-holds, refused-first, accepted-clear}
 
 -- what a call that changes nothing answers, by its faults
-abbrev answered : List Fault → Outcome Numbered (Unit {0})
-answered faults = unless {Memory = Unit {0}} faults tt (tt, tt) .1
+abbrev answer : List Fault → Outcome Numbered (Unit {0})
+answer faults = unless {Memory = Unit {0}} faults tt (tt, tt) .1
 
 answered-by : (test : Bool) (refusal : Numbered) (faults : List Fault)
-    → cond test (refused refusal) (answered faults) ≡ answered (record { holds = test; refusal = refusal } ∷ faults)
+    → cond test (refused refusal) (answer faults) ≡ answer (record { holds = test; refusal = refusal } ∷ faults)
 answered-by true refusal faults = refl
 answered-by false refusal faults = refl
 
+answered : (faults : List Fault) → verdict faults ≡ answer faults
+answered [] = refl
+answered (fault ∷ faults) =
+    ap (λ (rest : Outcome Numbered (Unit {0})). cond (fault .holds) (refused (fault .refusal)) rest) (answered faults)
+    ∙ answered-by (fault .holds) (fault .refusal) faults
+
+-- where none holds, all may pass
+pub verdict-clear : (faults : List Fault) → Clear faults → verdict faults ≡ ok tt
+verdict-clear faults clear = answered faults ∙ ap (λ (all : Unit {0} × Outcome Numbered (Unit {0})). all .1) (none-holds tt (tt, tt) faults clear)
+
+-- the first that holds decides
+pub verdict-first : (faults : List Fault) (refusal : Numbered) → First faults refusal → verdict faults ≡ refused refusal
+verdict-first faults refusal found =
+    answered faults ∙ ap (λ (all : Unit {0} × Outcome Numbered (Unit {0})). all .1) (first-holds tt (tt, tt) faults refusal found)
+
+-- and there is no other reason
+pub first-verdict : (faults : List Fault) (refusal : Numbered) → verdict faults ≡ refused refusal → First faults refusal
+first-verdict faults refusal e = refused-first {Memory = Unit {0}} tt (tt, tt) faults refusal (sym (answered faults) ∙ e)
+
+-- all may pass only where none holds
+pub clear-verdict : (faults : List Fault) → verdict faults ≡ ok tt → Clear faults
+clear-verdict faults e = accepted-clear {Memory = Unit {0}} tt (tt, tt) faults tt (sym (answered faults) ∙ e)
+
 module _ {Q : Type 0} (memory : Q → ℕ) where
-  -- its outcome is what a call with these faults answers
-  outcome : (faults : List Fault) → run memory (checked faults) ≡ answered faults
-  outcome [] = refl
-  outcome (fault ∷ faults) =
+  -- the outcome of the rule rests on no memory
+  pub run-checked : (faults : List Fault) → run memory (checked faults) ≡ verdict faults
+  run-checked [] = refl
+  run-checked (fault ∷ faults) =
       run-cond memory (fault .holds) (stop (fault .refusal)) (checked faults)
-      ∙ ap (λ (rest : Outcome Numbered (Unit {0})). cond (fault .holds) (refused (fault .refusal)) rest) (outcome faults)
-      ∙ answered-by (fault .holds) (fault .refusal) faults
-
-  -- where none holds, it lets pass
-  pub checked-clear : (faults : List Fault) → Clear faults → run memory (checked faults) ≡ ok tt
-  checked-clear faults clear = outcome faults ∙ ap (λ (all : Unit {0} × Outcome Numbered (Unit {0})). all .1) (none-holds tt (tt, tt) faults clear)
-
-  -- it refuses by the first that holds
-  pub checked-first : (faults : List Fault) (refusal : Numbered) → First faults refusal → run memory (checked faults) ≡ refused refusal
-  checked-first faults refusal found =
-      outcome faults ∙ ap (λ (all : Unit {0} × Outcome Numbered (Unit {0})). all .1) (first-holds tt (tt, tt) faults refusal found)
-
-  -- and for no other reason
-  pub first-checked : (faults : List Fault) (refusal : Numbered) → run memory (checked faults) ≡ refused refusal → First faults refusal
-  first-checked faults refusal e = refused-first {Memory = Unit {0}} tt (tt, tt) faults refusal (sym (outcome faults) ∙ e)
-
-  -- it lets pass only where none holds
-  pub clear-checked : (faults : List Fault) → run memory (checked faults) ≡ ok tt → Clear faults
-  clear-checked faults e = accepted-clear {Memory = Unit {0}} tt (tt, tt) faults tt (sym (outcome faults) ∙ e)
+      ∙ ap (λ (rest : Outcome Numbered (Unit {0})). cond (fault .holds) (refused (fault .refusal)) rest) (run-checked faults)
 
   none-read : (test : Bool) {cells : List Q} → cells ≡ [] → cond test [] cells ≡ []
   none-read true e = refl
   none-read false e = e
 
-  -- it reads nothing
+  -- and it reads nothing
   pub checked-reads : (faults : List Fault) → reads memory (checked faults) ≡ []
   checked-reads [] = refl
   checked-reads (fault ∷ faults) =

@@ -1,12 +1,15 @@
--- A loop that fills the front of a list, one store a turn. Assumes nothing.
-use Prim.Native.Nat.{ℕ, zero, suc, _+_, _≤_, _<_}
-use mathlib.Core.Path.{_≡_, refl, ap, _∙_}
-use mathlib.Core.List.{List, [], _∷_}
+-- A loop that fills the front of a list, one store a turn, and runs that fill it one behind another. Assumes nothing.
+use Prim.Native.Nat.{ℕ, zero, suc, _+_, _-_, _≤_, _<_}
+use mathlib.Core.Path.{_≡_, refl, ap, ap₂, _∙_}
+use mathlib.Core.List.{List, [], _∷_, _++_, append-assoc, append-nil}
 use native.Mathlib.Omega.{arith}
-use native.Mathlib.Nat.{add-zero, add-suc, suc-add, not-suc-le-zero}
+use native.Mathlib.Nat.{add-zero, zero-add, add-suc, suc-add, not-suc-le-zero}
 use native.Mathlib.Numerals.{add-one}
-use lib.ListN.{length, set, length-set}
-use Rattle.rules.specs.Lists.{filled}
+use borrow.Rule.Slice.PartMut.{putMid}
+use lib.ListN.{length, set, take, drop, length-set, length-append, length-drop}
+use lib.Seq.{take-at, drop-at, drop-drop, drop-length, take-length}
+use Rattle.rules.specs.Lists.{values, filled}
+use Rattle.rules.proofs.Lists.{length-values, values-add}
 
 module _ {A : Type 0} (at : ℕ → A) where
   one-more : (count from : ℕ) (room : List A) → count < length room
@@ -41,3 +44,44 @@ module _ {A : Type 0} {at : ℕ → A} {from count : ℕ} {room : List A} where
   -- after the last store
   pub fill-over : {now : List A} {i : ℕ} → Filling at from count room now i → count ≤ i → now ≡ filled at from room count
   fill-over {now} {i} fill all = let e : i ≡ count = omega arith in rw (← e) (fill .list)
+
+module _ {A : Type 0} (f g : ℕ → A) where
+  values-same : (count from : ℕ) → ((p : ℕ) → from ≤ p → p < from + count → f p ≡ g p) → values f count from ≡ values g count from
+  values-same zero from same = refl
+  values-same (suc count) from same =
+      ap₂ (λ (a : A) (rest : List A). a ∷ rest)
+      (same from (omega arith) (omega arith))
+      (values-same count (suc from) (λ p low high. same p (omega arith) (omega arith)))
+
+-- two functions that agree on a run fill the same
+pub filled-same : {A : Type 0} (f g : ℕ → A) (from : ℕ) (room : List A) (count : ℕ)
+    → ((p : ℕ) → from ≤ p → p < from + count → f p ≡ g p) → filled f from room count ≡ filled g from room count
+filled-same {A} f g from room count same = ap (λ (front : List A). front ++ drop count room) (values-same f g count from same)
+
+-- a list whose front is filled is as long as it was
+pub filled-length : {A : Type 0} (at : ℕ → A) (from : ℕ) (room : List A) (count : ℕ) → count ≤ length room → length (filled at from room count) ≡ length room
+filled-length at from room count fits = simp (length-append, length-drop, length-values) (omega arith)
+
+module _ {A : Type 0} where
+  -- `&mut list[x..]` lends what stands from x on
+  pub tail-lent : (x : ℕ) (list : List A) → take (length list - x) (drop x list) ≡ drop x list
+  tail-lent x list = rw (← length-drop x list) (take-length (drop x list))
+
+  -- and what it is then comes back behind the first x
+  pub tail-back : (x : ℕ) (list last : List A) → putMid x (length list - x) list last ≡ take x list ++ last
+  tail-back x list last = rw (← length-drop x list, drop-length, append-nil)
+
+module _ {A : Type 0} (f g : ℕ → A) where
+  run-on : (x count : ℕ) (room out last : List A) → out ≡ filled f 0 room x → last ≡ filled g x (take (length out - x) (drop x out)) count
+      → ((p : ℕ) → x ≤ p → p < x + count → g p ≡ f p) → putMid x (length out - x) out last ≡ filled f 0 room (x + count)
+  run-on x count room out last before run same =
+      tail-back x out last
+      ∙ rw (run, tail-lent x out, before, take-at (values f x 0) (drop x room) x (length-values f x 0), drop-at (values f x 0) (drop x room) x (length-values f x 0), drop-drop, values-same g f count x same, values-add f x count 0, zero-add, append-assoc)
+
+  -- a run up to `stop`, drawn by a callee that was lent `&mut out[x..]`, makes a list filled to x one filled to `stop`
+  pub fill-run : (x stop : ℕ) (room out last : List A) → x ≤ stop → out ≡ filled f 0 room x
+      → last ≡ filled g x (take (length out - x) (drop x out)) (stop - x)
+      → ((p : ℕ) → x ≤ p → p < stop → g p ≡ f p) → putMid x (length out - x) out last ≡ filled f 0 room stop
+  fill-run x stop room out last below before run same =
+      let sum : x + (stop - x) ≡ stop = omega arith in
+      rw sum at (run-on x (stop - x) room out last before run (λ p low high. same p low (omega arith)))

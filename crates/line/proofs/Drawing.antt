@@ -1,0 +1,96 @@
+-- The second pass: a line drawn run by run is filled with its colours. Assumes nothing.
+use Prim.Native.Nat.{ℕ, _+_, _-_, _*_, _/_, _≤_, _<_}
+use mathlib.Core.Path.{_≡_, refl, sym, ap, _∙_}
+use mathlib.Core.Bool.{Bool, true, false, true≢false, _&&_}
+use mathlib.Core.List.{List}
+use mathlib.Core.Logic.{⊎-elim}
+use native.Mathlib.Omega.{arith}
+use borrow.Rule.Slice.PartMut.{putMid}
+use lib.ListN.{length, take, drop, length-drop}
+use Rattle.rules.specs.Rule.{Outcome, ok, refused, run, value}
+use Rattle.rules.specs.Lists.{filled}
+use Rattle.rules.specs.Faults.{Numbered}
+use Rattle.rules.proofs.Cases.{impossible}
+use Rattle.rules.proofs.Fill.{fill-run, filled-length, tail-lent}
+use Rattle.refusals.specs.declared.Refusal.{Refusal}
+use Rattle.colour.specs.declared.entry.Entry.{Entry}
+use Rattle.registers.specs.Store.{storeLength}
+use Rattle.pixels.specs.Cells.{pixelView}
+use Rattle.pixels.specs.Colour.{SaidAt, overlayCounts, colourOf}
+use Rattle.line.specs.Controls.{screenOf}
+use Rattle.line.specs.Cells.{Lent, lentOf, view}
+use Rattle.line.specs.Line.{normalLength, entryAt}
+use Rattle.line.specs.Inner.{Sized, RunTold, Entries, colourBy, colourAt, Enough}
+use Rattle.line.specs.declared.controls.Controls.{Controls}
+use Rattle.line.specs.declared.runs.Run.{Run}
+use Rattle.line.specs.declared.runs.RunAt.the-variants.{Is, Refused}
+use Rattle.line.proofs.Pass.{Passing, pass-start, pass-run}
+
+-- the first of two switches that are both on
+first-on : (first second : Bool) → first && second ≡ true → first ≡ true
+first-on true second e = refl
+first-on false second e = e
+
+module _ (controls : Controls) (y : ℕ) (store table normal overlay : List ℕ) (start : ℕ) where
+  -- what is lent
+  abbrev lent : Lent
+  lent = lentOf store table normal overlay
+
+  -- a pass that draws is at pixel x: the output is filled up to there
+  pub record Drawing (before now : List ℕ) (x from : ℕ) : Type 0 where
+    pub passing : Passing controls store table start x from
+    pub long : length now ≡ length before
+    pub list : now ≡ filled (colourAt controls y lent start) 0 before x
+
+  -- before the first run
+  pub draw-start : (output : List ℕ) → Drawing output output 0 0
+  draw-start output = record { passing = pass-start controls store table start; long = refl; list = refl }
+
+  -- a pixel of a run has the colour that the run's entry gives it
+  run-colour : {x : ℕ} (found : Run) → RunTold controls store table start x (Is found) → (p : ℕ) → x ≤ p → p < found .end
+      → value (pixelView store normal overlay) (colourOf (screenOf controls y) (found .entry) p) ≡ colourAt controls y lent start p
+  unfolding colourAt
+  run-colour found told p low high =
+      ap (λ (outcome : Outcome Numbered Entry). colourBy (pixelView store normal overlay) (screenOf controls y) p outcome) (sym (told .4 normal overlay p low high))
+
+  module _ {before now : List ℕ} {x from : ℕ} (here : Drawing before now x from) (enough : Enough controls lent before) (found : Run)
+      (told : RunTold controls store table start x (Is found)) where
+    -- one run on, which was lent the output from its first pixel on
+    pub draw-run : (last : List ℕ)
+        → last ≡ filled (λ p. value (pixelView store normal overlay) (colourOf (screenOf controls y) (found .entry) p)) x (take (length now - x) (drop x now)) (found .end - x)
+        → Drawing before (putMid x (length now - x) now last) (found .end) (found .next)
+    draw-run last run =
+        let list = fill-run (colourAt controls y lent start) _ x (found .end) before now last (omega (arith, told .0)) (here .list) run (run-colour found told) in
+        record {
+          passing = pass-run controls store table start (here .passing) told;
+          long = ap length list ∙ filled-length (colourAt controls y lent start) 0 before (found .end) (omega (arith, told .1, enough .output-long));
+          list = list;
+        }
+
+    -- there are pixels for it in the normal row
+    pub normal-reaches : Sized controls → (x + (found .end - x)) * (screenOf controls y .depth / 8) ≤ length normal
+    normal-reaches sized =
+        let sum : x + (found .end - x) ≡ found .end = omega (arith, told .0) in
+        rw (sum, enough .normal-long)
+        (⊎-elim
+        (λ (at : controls .depth ≡ 16). rw at (omega (arith, told .1)))
+        (λ (at : controls .depth ≡ 32). rw at (omega (arith, told .1)))
+        (sized .at-depth))
+
+    -- and in the overlay row where overlay counts
+    pub overlay-reaches : overlayCounts (screenOf controls y) (found .entry) ≡ true → x + (found .end - x) ≤ length overlay
+    overlay-reaches counts =
+        let long = enough .overlay-long (first-on (controls .overlay) (found .entry .overlay) counts) in
+        omega (arith, told .0, told .1, long)
+
+    -- and room for it in the output
+    pub output-reaches : found .end - x ≤ length (take (length now - x) (drop x now))
+    output-reaches = rw (tail-lent x now, length-drop) (omega (arith, told .1, enough .output-long, here .long))
+
+  -- where every pixel has a window entry no run is refused
+  pub none-refused : (refusal : Refusal) (x : ℕ) → Entries controls store table start → x < controls .width
+      → RunTold controls store table start x (Refused refusal) → ⊥
+  none-refused refusal x entries inside told =
+      let has = entries normal overlay x inside in
+      let e = sym (has .1) ∙ told normal overlay in
+      impossible cc

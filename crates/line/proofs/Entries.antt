@@ -1,0 +1,141 @@
+-- A pixel's ID and window entry: what the rule makes of what the look-up and the decoder answer. Assumes nothing.
+use Prim.Native.Nat.{ℕ, _+_, _%_, _^_, _≤_, _<_}
+use mathlib.Core.Path.{_≡_, refl, sym, ap, _∙_}
+use mathlib.Core.Bool.{true, false}
+use mathlib.Core.List.{List}
+use native.Mathlib.Nat.{zero-add}
+use native.Mathlib.Omega.{arith}
+use lib.ListN.{length, getD}
+use Rattle.rules.specs.Rule.{Rule, Outcome, ok, refused, run, renamed}
+use Rattle.rules.specs.Faults.{Numbered}
+use Rattle.rules.proofs.Then.{run-ok, run-refused, run-within}
+use Rattle.refusals.specs.Refusal.{numbered}
+use Rattle.refusals.specs.declared.Refusal.the-variants.{UndefinedEntry}
+use Rattle.colour.specs.Entry.{decoded}
+use Rattle.colour.specs.declared.entry.Entry.{Entry}
+use Rattle.colour.specs.declared.entry.Decoded.{Decoded}
+use Rattle.colour.specs.declared.entry.Decoded.the-variants.{Defined, Undefined}
+use Rattle.colour.proofs.Kept.{decoded-kept}
+use Rattle.registers.specs.Store.{stored}
+use Rattle.registers.specs.declared.Block.the-variants.{WindowEntries}
+use Rattle.windows.specs.Table.{TableCell, tableView}
+use Rattle.windows.specs.Frame.{lineTableOf, told as startSaid}
+use Rattle.windows.specs.Ids.{idOf}
+use Rattle.windows.specs.Carried.{foundFrom, told as foundSaid, idBelow}
+use Rattle.windows.specs.declared.frame.LineTable.{LineTable}
+use Rattle.windows.specs.declared.frame.LineTable.the-variants.{Starts, Refused as NoTable}
+use Rattle.windows.specs.declared.ids.Found.{Found}
+use Rattle.windows.specs.declared.ids.LookedUp.{LookedUp}
+use Rattle.windows.specs.declared.ids.LookedUp.the-variants.{Id, Refused as NoId}
+use Rattle.windows.proofs.Pixels.{found-serves, refused-serves}
+use Rattle.line.specs.Cells.{Lent, lentOf, view}
+use Rattle.line.specs.Line.{inTable, startOf, idAt, definedAt, entryAt}
+use Rattle.line.specs.Inner.{PassedAt, Served, RunTold, StartTold}
+use Rattle.line.specs.declared.controls.Controls.{Controls}
+use Rattle.line.specs.declared.runs.RunAt.the-variants.{Is}
+
+renamed-same : {R A : Type 0} (outcome : Outcome R A) → renamed (λ (refusal : R). refusal) outcome ≡ outcome
+renamed-same (ok answer) = refl
+renamed-same (refused refusal) = refl
+
+-- a rule over the table goes by the table that is lent
+pub run-in-table : {A : Type 0} (lent : Lent) (rule : Rule Numbered TableCell A) → run (view lent) (inTable rule) ≡ run (tableView (lent .table)) rule
+run-in-table lent rule = run-within _ _ (view lent) rule ∙ renamed-same _
+
+module _ (controls : Controls) (table : List ℕ) where
+  -- where the line table starts, window IDs on
+  pub start-on : (y : ℕ) (found : LineTable) → controls .ids ≡ true
+      → startSaid found ≡ run (tableView table) (lineTableOf (length table) y) → StartTold controls table y found
+  unfolding startOf
+  start-on y (Starts byte) on says = λ store normal overlay. rw on (run-in-table (lentOf store table normal overlay) (lineTableOf (length table) y) ∙ sym says)
+  start-on y (NoTable refusal) on says = λ store normal overlay. rw on (run-in-table (lentOf store table normal overlay) (lineTableOf (length table) y) ∙ sym says)
+
+  -- off, there is none
+  pub start-off : (y : ℕ) → controls .ids ≡ false → StartTold controls table y (Starts 0)
+  unfolding startOf
+  start-off y off = λ store normal overlay. rw off refl
+
+  module _ (start from x : ℕ) where
+    -- a pixel's ID, window IDs on
+    pub served-on : (found : LookedUp) → controls .ids ≡ true → PassedAt controls table start from x
+        → foundSaid found ≡ run (tableView table) (foundFrom (length table) start from x) → idBelow found → Served controls table start x found
+    unfolding idAt
+    served-on (Id found) on passed says below =
+        let serves = found-serves (tableView table) (length table) start from x (passed on) (sym says) in (
+          below,
+          serves .reaches,
+          λ again. serves .passed,
+          λ store normal overlay p low high. rw on (run-in-table (lentOf store table normal overlay) (idOf (length table) start p) ∙ serves .ids p low high),
+        )
+    served-on (NoId refusal) on passed says below =
+        λ store normal overlay.
+        rw on
+        (run-in-table (lentOf store table normal overlay) (idOf (length table) start x)
+        ∙ refused-serves (tableView table) (length table) start from x (passed on) (sym says))
+
+-- off, every pixel has ID 0
+pub id-off : (controls : Controls) (lent : Lent) (length start p : ℕ) → controls .ids ≡ false → run (view lent) (idAt controls length start p) ≡ ok 0
+unfolding idAt
+id-off controls lent length start p off = rw off refl
+
+-- of a window entry the decoder looks at the kept bits alone
+kept-decoded : (store : List ℕ) (id depth : ℕ) → decoded (stored store (record { block = WindowEntries; word = id })) depth ≡ decoded (getD store id 0) depth
+kept-decoded store id depth =
+    let kept : stored store (record { block = WindowEntries; word = id }) ≡ getD store id 0 % 2 ^ 13 = rw zero-add (omega arith) in
+    rw kept (decoded-kept (getD store id 0) depth)
+
+module _ (controls : Controls) (lent : Lent) (start x : ℕ) where
+  -- no ID: that refusal
+  pub entry-no-id : {refusal : Numbered} → run (view lent) (idAt controls (length (lent .table)) start x) ≡ refused refusal
+      → run (view lent) (entryAt controls (length (lent .table)) start x) ≡ refused refusal
+  unfolding entryAt
+  entry-no-id none = run-refused (view lent) (idAt controls (length (lent .table)) start x) _ none
+
+  module _ {id : ℕ} (found : run (view lent) (idAt controls (length (lent .table)) start x) ≡ ok id) where
+    by-decoded : {what : Decoded} → decoded (getD (lent .store) id 0) (controls .depth) ≡ what
+        → run (view lent) (entryAt controls (length (lent .table)) start x) ≡ run (view lent) (definedAt x what)
+    unfolding entryAt
+    by-decoded e =
+        run-ok (view lent) (idAt controls (length (lent .table)) start x) _ found
+        ∙ ap (λ (what : Decoded). run (view lent) (definedAt x what)) (kept-decoded (lent .store) id (controls .depth) ∙ e)
+
+    -- an ID and a defined entry
+    pub entry-defined : {entry : Entry} → decoded (getD (lent .store) id 0) (controls .depth) ≡ Defined entry
+        → run (view lent) (entryAt controls (length (lent .table)) start x) ≡ ok entry
+    entry-defined e = by-decoded e
+
+    -- an ID and an undefined entry: 9
+    pub entry-undefined : decoded (getD (lent .store) id 0) (controls .depth) ≡ Undefined
+        → run (view lent) (entryAt controls (length (lent .table)) start x) ≡ refused (numbered (UndefinedEntry x))
+    entry-undefined e = by-decoded e
+
+-- what the look-up answered for pixel x, and the decoder for the window entry of its ID
+module _ (controls : Controls) (store table : List ℕ) (start x : ℕ) (found : Found) (entry : Entry) (served : Served controls table start x (Id found))
+    (says : decoded (getD store (found .id) 0) (controls .depth) ≡ Defined entry) (inside : x < controls .width) where
+  -- each pixel up to the last has that entry
+  all-have : (normal overlay : List ℕ) (p : ℕ) → x ≤ p → p ≤ found .last
+      → run (view (lentOf store table normal overlay)) (entryAt controls (length table) start p) ≡ ok entry
+  all-have normal overlay p low high =
+      entry-defined controls (lentOf store table normal overlay) start p (served .3 store normal overlay p low high) says
+
+  -- a run that ends within the line
+  pub run-within-line : found .last < controls .width
+      → RunTold controls store table start x (Is (record { entry = entry; end = found .last + 1; next = found .next }))
+  run-within-line within = (
+    omega (arith, served .1),
+    omega arith,
+    λ more. served .2,
+    (getD store (found .id) 0, says),
+    λ normal overlay p low high. all-have normal overlay p low (omega arith),
+  )
+
+  -- a run to the end of the line
+  pub run-to-end : controls .width ≤ found .last
+      → RunTold controls store table start x (Is (record { entry = entry; end = controls .width; next = found .next }))
+  run-to-end beyond = (
+    inside,
+    omega arith,
+    λ more. absurd (omega arith),
+    (getD store (found .id) 0, says),
+    λ normal overlay p low high. all-have normal overlay p low (omega arith),
+  )

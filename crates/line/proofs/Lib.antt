@@ -1,0 +1,7 @@
+pub mod Lengths
+pub mod Entries
+pub mod Pass
+pub mod Whole
+pub mod Drawing
+pub mod Result
+pub mod Unique

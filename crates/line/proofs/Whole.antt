@@ -1,0 +1,113 @@
+-- The whole rule of a line, by what its checks and passes come to. Assumes nothing.
+use Prim.Native.Nat.{ℕ, _≤_}
+use mathlib.Core.Path.{_≡_, refl, sym, ap, _∙_}
+use mathlib.Core.Bool.{Bool, true, false, true≢false, not, _&&_}
+use mathlib.Core.List.{List}
+use native.Mathlib.Omega.{arith}
+use borrow.Author.Tests.{eqb-true, ltb-false, not-false}
+use lib.Dec.{eqb}
+use lib.ListN.{length}
+use Rattle.rules.specs.Rule.{Rule, Outcome, ok, refused, run, _>>=_, value}
+use Rattle.rules.specs.Lists.{values}
+use Rattle.rules.specs.Each.{each, eachOf}
+use Rattle.rules.specs.Faults.{Numbered}
+use Rattle.rules.specs.Checked.{checked, verdict}
+use Rattle.rules.proofs.Then.{run-ok, run-refused}
+use Rattle.rules.proofs.Each.{each-ok, each-of-values}
+use Rattle.rules.proofs.Checked.{run-checked, clear-verdict}
+use Rattle.rules.proofs.Value.{run-within-value}
+use Rattle.colour.specs.declared.entry.Entry.{Entry}
+use Rattle.registers.specs.Store.{storeLength}
+use Rattle.pixels.specs.Cells.{PixelCell, pixelView}
+use Rattle.pixels.specs.Colour.{colourOf}
+use Rattle.line.specs.Controls.{screenOf}
+use Rattle.line.specs.Cells.{Cell, ofColour, Lent, lentOf, view}
+use Rattle.line.specs.Line.{normalLength, overlayWrong, lengthFaults, lineFaults, startOf, entryAt, entriesOf, inColours, coloursOf, lineRule}
+use Rattle.line.specs.Inner.{Drawable, colourBy, colourAt}
+use Rattle.line.specs.declared.setup.Setup.{Setup}
+use Rattle.line.proofs.Pass.{entryOf, has-entry, entries-run}
+
+both : (first second : Bool) → first && second ≡ false → first ≡ true → second ≡ false
+both true second e on = e
+both false second e on = absurd (true≢false (sym on))
+
+-- what a line that passes its first checks has
+pub record Fitted (setup : Setup) : Type 0 where
+  pub store-right : setup .lengths .store ≡ storeLength
+  pub normal-right : setup .lengths .normal ≡ normalLength (setup .controls)
+  pub overlay-right : setup .controls .overlay ≡ true → setup .lengths .overlay ≡ setup .controls .width
+  pub output-right : setup .controls .width ≤ setup .lengths .output
+
+-- the lengths of a line that passes them
+pub fitted : (setup : Setup) → verdict (lineFaults setup) ≡ ok tt → Fitted setup
+unfolding lineFaults lengthFaults overlayWrong
+fitted setup passes =
+    let clear = clear-verdict (lineFaults setup) passes in
+    let lengths = clear .1 .1 .1 in
+    record {
+      store-right = eqb-true _ _ (not-false _ (lengths .0));
+      normal-right = eqb-true _ _ (not-false _ (lengths .1 .1 .0));
+      overlay-right = λ on. eqb-true _ _ (not-false _ (both _ _ (lengths .1 .1 .1 .0) on));
+      output-right = ltb-false _ _ (lengths .1 .1 .1 .1 .0);
+    }
+
+module _ (setup : Setup) (lent : Lent) where
+  -- refused before anything is read
+  pub line-unfit : {refusal : Numbered} → verdict (lineFaults setup) ≡ refused refusal → run (view lent) (lineRule setup) ≡ refused refusal
+  unfolding lineRule
+  line-unfit unfit = run-refused (view lent) (checked (lineFaults setup)) _ (run-checked (view lent) (lineFaults setup) ∙ unfit)
+
+  module _ (passes : verdict (lineFaults setup) ≡ ok tt) where
+    by-entries : run (view lent) (lineRule setup) ≡ run (view lent) (entriesOf setup >>= coloursOf setup)
+    unfolding lineRule
+    by-entries = run-ok (view lent) (checked (lineFaults setup)) _ (run-checked (view lent) (lineFaults setup) ∙ passes)
+
+    -- no line table: that refusal
+    pub line-no-table : {refusal : Numbered} → run (view lent) (startOf (setup .controls) (setup .lengths .table) (setup .y)) ≡ refused refusal
+        → run (view lent) (lineRule setup) ≡ refused refusal
+    unfolding entriesOf
+    line-no-table none =
+        by-entries
+        ∙ run-refused (view lent) (entriesOf setup) _
+        (run-refused (view lent) (startOf (setup .controls) (setup .lengths .table) (setup .y)) _ none)
+
+    module _ {start : ℕ} (starts : run (view lent) (startOf (setup .controls) (setup .lengths .table) (setup .y)) ≡ ok start) where
+      -- a pixel without a defined window entry: its refusal
+      pub line-no-entry : {refusal : Numbered}
+          → run (view lent) (each (entryAt (setup .controls) (setup .lengths .table) start) (setup .controls .width) 0) ≡ refused refusal
+          → run (view lent) (lineRule setup) ≡ refused refusal
+      unfolding entriesOf
+      line-no-entry none =
+          by-entries
+          ∙ run-refused (view lent) (entriesOf setup) _
+          (run-ok (view lent) (startOf (setup .controls) (setup .lengths .table) (setup .y)) _ starts ∙ none)
+
+      -- every pixel with one: the colours
+      pub line-coloured : {entries : List Entry}
+          → run (view lent) (each (entryAt (setup .controls) (setup .lengths .table) start) (setup .controls .width) 0) ≡ ok entries
+          → run (view lent) (lineRule setup) ≡ run (view lent) (coloursOf setup entries)
+      unfolding entriesOf
+      line-coloured all =
+          by-entries
+          ∙ run-ok (view lent) (entriesOf setup) _
+          (run-ok (view lent) (startOf (setup .controls) (setup .lengths .table) (setup .y)) _ starts ∙ all)
+
+-- a line that may be drawn has the colours of its pixels
+pub line-drawn : (setup : Setup) (store table normal overlay : List ℕ) (start : ℕ) → length table ≡ setup .lengths .table → Drawable setup store table start
+    → run (view (lentOf store table normal overlay)) (lineRule setup)
+    ≡ ok (values (colourAt (setup .controls) (setup .y) (lentOf store table normal overlay) start) (setup .controls .width) 0)
+unfolding coloursOf colourAt
+line-drawn setup store table normal overlay start long drawable =
+    let lent = lentOf store table normal overlay in
+    let memory = view lent in
+    let screen = screenOf (setup .controls) (setup .y) in
+    let found : ℕ → Entry = λ p. entryOf (run memory (entryAt (setup .controls) (length table) start p)) in
+    line-coloured setup lent (drawable .fit) {start = start} (rw (sym long) (drawable .starts normal overlay)) {entries = values found (setup .controls .width) 0}
+    (rw (sym long) (entries-run (setup .controls) store table start (drawable .entries) normal overlay))
+    ∙ ap (λ (rule : Rule Numbered Cell (List ℕ)). run memory rule)
+    (each-of-values (λ (entry : Entry) (x : ℕ). inColours (colourOf screen entry x)) found (setup .controls .width) 0)
+    ∙ each-ok memory (λ (x : ℕ). inColours (colourOf screen (found x) x)) (colourAt (setup .controls) (setup .y) lent start) (setup .controls .width) 0
+    (λ x low high.
+    run-within-value _ ofColour memory (colourOf screen (found x) x)
+    ∙ ap (λ (outcome : Outcome Numbered Entry). ok (colourBy (pixelView store normal overlay) screen x outcome))
+    (sym (has-entry (drawable .entries normal overlay x (omega arith)))))

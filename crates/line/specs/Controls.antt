@@ -1,0 +1,49 @@
+-- What the control words say of a line.
+use Prim.Native.Nat.{ℕ, _+_}
+use mathlib.Core.Bool.{Bool, cond}
+use mathlib.Core.List.{List}
+use lib.Dec.{eqb}
+use lib.ListN.{getD}
+use Rattle.words.specs.Field.{field}
+use Rattle.pixels.specs.declared.Screen.{Screen}
+use Rattle.line.specs.declared.controls.Controls.{Controls}
+
+-- a switch of control word 0
+unfoldable pub switch : ℕ → ℕ → Bool
+switch word bit = eqb (field word bit bit) 1
+
+-- the depth, by bit 4 of control word 0
+unfoldable pub depthOf : ℕ → ℕ
+depthOf word = cond (switch word 4) 32 16
+
+-- the fields of the control words; sizes and totals are a field plus 1
+unfoldable pub controlsOf : List ℕ → Controls
+controlsOf control =
+    record {
+      overlay = switch (getD control 0 0) 0;
+      ids = switch (getD control 0 0) 1;
+      cursor = switch (getD control 0 0) 2;
+      crosshair = switch (getD control 0 0) 3;
+      depth = depthOf (getD control 0 0);
+      columns = field (getD control 1 0) 11 0 + 1;
+      lines = field (getD control 1 0) 27 16 + 1;
+      left = field (getD control 6 0) 11 0;
+      top = field (getD control 6 0) 27 16;
+      width = field (getD control 7 0) 10 0 + 1;
+      height = field (getD control 7 0) 26 16 + 1;
+      cx = field (getD control 8 0) 11 0;
+      cy = field (getD control 8 0) 27 16;
+    }
+
+-- what they say of every pixel of line y
+abbrev pub screenOf : Controls → ℕ → Screen
+screenOf controls y =
+    record {
+      overlay = controls .overlay;
+      cursor = controls .cursor;
+      crosshair = controls .crosshair;
+      depth = controls .depth;
+      cx = controls .cx;
+      cy = controls .cy;
+      y = y;
+    }

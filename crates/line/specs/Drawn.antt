@@ -1,0 +1,53 @@
+-- What a line leaves and answers.
+use Prim.Native.Nat.{ℕ}
+use mathlib.Core.List.{List, _++_}
+use lib.ListN.{length, drop}
+use Rattle.rules.specs.Rule.{Outcome, ok, refused}
+use Rattle.rules.specs.Faults.{Numbered}
+use Rattle.refusals.specs.Refusal.{numbered}
+use Rattle.chip.specs.State.{goodState}
+use Rattle.chip.specs.declared.state.State.{State}
+use Rattle.line.specs.Controls.{controlsOf}
+use Rattle.line.specs.Cells.{Lent}
+use Rattle.line.specs.Line.{lineOf}
+use Rattle.line.specs.declared.setup.Setup.{Setup}
+use Rattle.line.specs.declared.draw.Answer.{Answer}
+use Rattle.line.specs.declared.draw.Answer.the-variants.{Drawn, Refused}
+
+-- what a line goes by, of a state, a line number, what is lent and the output's length
+unfoldable pub setupOf : State → ℕ → Lent → ℕ → Setup
+setupOf state y lent output =
+    record {
+      good = goodState state;
+      controls = controlsOf (state .control);
+      y = y;
+      lengths = record {
+        store = length (lent .store);
+        table = length (lent .table);
+        normal = length (lent .normal);
+        overlay = length (lent .overlay);
+        output = output;
+      };
+    }
+
+-- what the answer says: drawn, or a refusal's number and values
+abbrev pub told : Answer → Outcome Numbered (Unit {0})
+told Drawn = ok tt
+told (Refused refusal) = refused (numbered refusal)
+
+-- whether a line is drawn
+abbrev pub said : Outcome Numbered (List ℕ) → Outcome Numbered (Unit {0})
+said (ok colours) = ok tt
+said (refused refusal) = refused refusal
+
+-- the output after it: the colours of the active width with the words past it as they were, or all as it was
+abbrev pub after : ℕ → List ℕ → Outcome Numbered (List ℕ) → List ℕ
+after width output (ok colours) = colours ++ drop width output
+after width output (refused refusal) = output
+
+-- the state, the output and the answer; the state is handed back as it was
+unfoldable pub drawn : State → ℕ → Lent → List ℕ → (State × List ℕ) × Outcome Numbered (Unit {0})
+drawn state y lent output =
+    let setup = setupOf state y lent (length output) in
+    let line = lineOf setup lent in
+    ((state, after (setup .controls .width) output line), said line)

@@ -1,0 +1,126 @@
+-- What the functions inside ask and say.
+use Prim.Native.Nat.{ℕ, _+_, _≤_, _<_}
+use mathlib.Core.Path.{_≡_}
+use mathlib.Core.Bool.{true}
+use mathlib.Core.List.{List}
+use mathlib.Core.Logic.{_⊎_}
+use lib.ListN.{length}
+use Rattle.rules.specs.Rule.{Outcome, ok, refused, run, value}
+use Rattle.rules.specs.Lists.{filled}
+use Rattle.rules.specs.Each.{each}
+use Rattle.rules.specs.Faults.{Numbered}
+use Rattle.rules.specs.Checked.{verdict}
+use Rattle.refusals.specs.Refusal.{numbered}
+use Rattle.colour.specs.declared.entry.Entry.{Entry}
+use Rattle.registers.specs.Store.{storeLength}
+use Rattle.windows.specs.Table.{tableView}
+use Rattle.windows.proofs.Pixels.{PassedIds}
+use Rattle.windows.specs.declared.frame.LineTable.{LineTable}
+use Rattle.windows.specs.declared.frame.LineTable.the-variants.{Starts, Refused as NoTable}
+use Rattle.windows.specs.declared.ids.LookedUp.{LookedUp}
+use Rattle.windows.specs.declared.ids.LookedUp.the-variants.{Id, Refused as NoId}
+use Rattle.pixels.specs.Cells.{PixelCell, pixelView}
+use Rattle.pixels.specs.Colour.{SaidAt, colourOf}
+use Rattle.pixels.specs.declared.Screen.{Screen}
+use Rattle.line.specs.Controls.{screenOf}
+use Rattle.line.specs.Cells.{Cell, Lent, lentOf, view}
+use Rattle.line.specs.Line.{normalLength, lineFaults, startOf, idAt, entryAt, lineRule}
+use Rattle.line.specs.declared.controls.Controls.{Controls}
+use Rattle.line.specs.declared.setup.Setup.{Setup}
+use Rattle.line.specs.declared.faults.Fit.{Fit}
+use Rattle.line.specs.declared.faults.Fit.the-variants.{Yes, Refused as Unfit}
+use Rattle.line.specs.declared.runs.RunAt.{RunAt}
+use Rattle.line.specs.declared.runs.RunAt.the-variants.{Is, Refused as NoRun}
+
+-- the ranges of the fields
+pub record Sized (controls : Controls) : Type 0 where
+  pub left-lt : controls .left < 4096
+  pub top-lt : controls .top < 4096
+  pub width-le : controls .width ≤ 2048
+  pub height-le : controls .height ≤ 2048
+  pub at-depth : (controls .depth ≡ 16) ⊎ (controls .depth ≡ 32)
+
+-- whether a line may go on, or a refusal's number and values
+abbrev pub fitTold : Fit → Outcome Numbered (Unit {0})
+fitTold Yes = ok tt
+fitTold (Unfit refusal) = refused (numbered refusal)
+
+-- this holds over a store and a table, whatever the rows hold
+abbrev pub Over : List ℕ → List ℕ → ((Cell → ℕ) → Type 0) → Type 0
+Over store table Holds = (normal overlay : List ℕ) → Holds (view (lentOf store table normal overlay))
+
+-- where window IDs are on, the look-up of pixel x may go on from a line entry
+abbrev pub PassedAt : Controls → List ℕ → ℕ → ℕ → ℕ → Type 0
+PassedAt controls table start from x = controls .ids ≡ true → PassedIds (tableView table) start from x
+
+-- the look-up's answer for pixel x: an ID that all pixels to the last one have, past which it may go on, or the pixel's refusal
+abbrev pub Served : Controls → List ℕ → ℕ → ℕ → LookedUp → Type 0
+Served controls table start x (Id found) =
+    (found .id < 32)
+    × (x ≤ found .last)
+    × PassedAt controls table start (found .next) (found .last + 1)
+    × ((store : List ℕ) → Over store table (λ memory. (p : ℕ) → x ≤ p → p ≤ found .last → run memory (idAt controls (length table) start p) ≡ ok (found .id)))
+Served controls table start x (NoId refusal) =
+    (store : List ℕ) → Over store table (λ memory. run memory (idAt controls (length table) start x) ≡ refused (numbered refusal))
+
+-- the run that starts at pixel x: a window entry that all its pixels have, behind which the look-up may go on, or the pixel's refusal
+abbrev pub RunTold : Controls → List ℕ → List ℕ → ℕ → ℕ → RunAt → Type 0
+RunTold controls store table start x (Is found) =
+    (x < found .end)
+    × (found .end ≤ controls .width)
+    × (found .end < controls .width → PassedAt controls table start (found .next) (found .end))
+    × SaidAt (controls .depth) (found .entry)
+    × Over store table (λ memory. (p : ℕ) → x ≤ p → p < found .end → run memory (entryAt controls (length table) start p) ≡ ok (found .entry))
+RunTold controls store table start x (NoRun refusal) =
+    Over store table (λ memory. run memory (entryAt controls (length table) start x) ≡ refused (numbered refusal))
+
+-- every pixel has a defined window entry
+abbrev pub Entries : Controls → List ℕ → List ℕ → ℕ → Type 0
+Entries controls store table start =
+    Over store table (λ memory. (p : ℕ) → p < controls .width → (entry : Entry) × (run memory (entryAt controls (length table) start p) ≡ ok entry))
+
+-- the first pass's answer: that, or the refusal of the first pixel that has none
+abbrev pub EntriesTold : Controls → List ℕ → List ℕ → ℕ → Fit → Type 0
+EntriesTold controls store table start Yes = Entries controls store table start
+EntriesTold controls store table start (Unfit refusal) =
+    Over store table (λ memory. run memory (each (entryAt controls (length table) start) (controls .width) 0) ≡ refused (numbered refusal))
+
+-- where the line table starts, or the refusal
+abbrev pub StartTold : Controls → List ℕ → ℕ → LineTable → Type 0
+StartTold controls table y (Starts byte) =
+    (store : List ℕ) → Over store table (λ memory. run memory (startOf controls (length table) y) ≡ ok byte)
+StartTold controls table y (NoTable refusal) =
+    (store : List ℕ) → Over store table (λ memory. run memory (startOf controls (length table) y) ≡ refused (numbered refusal))
+
+-- a line that may be drawn, with the start of its line table
+pub record Drawable (setup : Setup) (store table : List ℕ) (start : ℕ) : Type 0 where
+  pub fit : verdict (lineFaults setup) ≡ ok tt
+  pub starts : Over store table (λ memory. run memory (startOf (setup .controls) (length table) (setup .y)) ≡ ok start)
+  pub entries : Entries (setup .controls) store table start
+
+-- what all checks answer: that, or the line's refusal
+abbrev pub CheckedTold : Setup → List ℕ → List ℕ → LineTable → Type 0
+CheckedTold setup store table (Starts byte) = Drawable setup store table byte
+CheckedTold setup store table (NoTable refusal) = Over store table (λ memory. run memory (lineRule setup) ≡ refused (numbered refusal))
+
+-- the colour of a pixel, by what was found of its window entry
+abbrev pub colourBy : (PixelCell → ℕ) → Screen → ℕ → Outcome Numbered Entry → ℕ
+colourBy memory screen x (ok entry) = value memory (colourOf screen entry x)
+colourBy memory screen x (refused refusal) = 0
+
+-- the colour of pixel x of a line whose table starts there
+unfoldable pub colourAt : Controls → ℕ → Lent → ℕ → ℕ → ℕ
+colourAt controls y lent start x =
+    colourBy (pixelView (lent .store) (lent .normal) (lent .overlay)) (screenOf controls y) x
+    (run (view lent) (entryAt controls (length (lent .table)) start x))
+
+-- what is lent is long enough to draw the active width
+pub record Enough (controls : Controls) (lent : Lent) (output : List ℕ) : Type 0 where
+  pub store-long : length (lent .store) ≡ storeLength
+  pub normal-long : length (lent .normal) ≡ normalLength controls
+  pub overlay-long : controls .overlay ≡ true → length (lent .overlay) ≡ controls .width
+  pub output-long : controls .width ≤ length output
+
+-- the output with the colours of the active width
+abbrev pub coloured : Controls → ℕ → Lent → ℕ → List ℕ → List ℕ
+coloured controls y lent start output = filled (colourAt controls y lent start) 0 output (controls .width)

@@ -1,0 +1,5 @@
+pub mod Controls
+pub mod Cells
+pub mod Line
+pub mod Drawn
+pub mod Inner

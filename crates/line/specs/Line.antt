@@ -1,0 +1,118 @@
+-- The rule of a line: what it is refused for, each pixel's window entry, and then the colours.
+use Prim.Native.Nat.{ℕ, _+_, _*_, _/_}
+use mathlib.Core.Bool.{Bool, cond, not, _&&_, _||_}
+use mathlib.Core.List.{List, [], _∷_}
+use lib.Dec.{eqb, leb, ltb}
+use Rattle.rules.specs.Rule.{Rule, done, stop, get, _>>=_, within, Outcome, run}
+use Rattle.rules.specs.Each.{each, eachOf}
+use Rattle.rules.specs.Faults.{Numbered, Fault}
+use Rattle.rules.specs.Checked.{checked}
+use Rattle.refusals.specs.Refusal.{numbered, fault}
+use Rattle.refusals.specs.declared.Refusal.the-variants.{StoreLength, TableLength, NormalLength, OverlayLength, OutputLength, BelowActive, UndefinedEntry, AboveTotal, BadState}
+use Rattle.colour.specs.Entry.{decoded}
+use Rattle.colour.specs.declared.entry.Entry.{Entry}
+use Rattle.colour.specs.declared.entry.Decoded.{Decoded}
+use Rattle.colour.specs.declared.entry.Decoded.the-variants.{Defined, Undefined}
+use Rattle.registers.specs.Store.{storeLength}
+use Rattle.windows.specs.Table.{TableCell}
+use Rattle.windows.specs.Frame.{lineTableOf}
+use Rattle.windows.specs.Ids.{idOf}
+use Rattle.pixels.specs.Cells.{PixelCell}
+use Rattle.pixels.specs.Colour.{colourOf}
+use Rattle.line.specs.Controls.{screenOf}
+use Rattle.line.specs.Cells.{Cell, ofTable, windowEntry, ofColour, Lent, view}
+use Rattle.line.specs.declared.controls.Controls.{Controls}
+use Rattle.line.specs.declared.setup.Setup.{Setup}
+
+-- ---- what a line is refused for before anything is read
+
+-- origin + size is above the total, either way
+unfoldable pub aboveTotal : Controls → Bool
+aboveTotal controls =
+    ltb (controls .columns) (controls .left + controls .width)
+    || ltb (controls .lines) (controls .top + controls .height)
+
+-- the bytes of a normal row
+abbrev pub normalLength : Controls → ℕ
+normalLength controls = controls .width * (controls .depth / 8)
+
+-- the table is looked at only where window IDs are on, and has at most 65,536 bytes
+unfoldable pub tableTooLong : Setup → Bool
+tableTooLong setup = setup .controls .ids && ltb 65536 (setup .lengths .table)
+
+-- the overlay row is looked at only where overlay is on, and has a byte for each pixel
+unfoldable pub overlayWrong : Setup → Bool
+overlayWrong setup = setup .controls .overlay && not (eqb (setup .lengths .overlay) (setup .controls .width))
+
+-- 5, at the lowest place
+unfoldable pub lengthFaults : Setup → List Fault
+lengthFaults setup =
+    fault StoreLength (not (eqb (setup .lengths .store) storeLength))
+    ∷ fault TableLength (tableTooLong setup)
+    ∷ fault NormalLength (not (eqb (setup .lengths .normal) (normalLength (setup .controls))))
+    ∷ fault OverlayLength (overlayWrong setup)
+    ∷ fault OutputLength (ltb (setup .lengths .output) (setup .controls .width))
+    ∷ []
+
+-- 11, 10, 6, 5
+unfoldable pub lineFaults : Setup → List Fault
+lineFaults setup =
+    fault BadState (not (setup .good))
+    ∷ fault AboveTotal (aboveTotal (setup .controls))
+    ∷ fault (BelowActive (setup .y)) (leb (setup .controls .height) (setup .y))
+    ∷ lengthFaults setup
+
+-- ---- the first pass: window entries
+
+-- a rule over the table, as one of the line
+abbrev pub inTable : {A : Type 0} → Rule Numbered TableCell A → Rule Numbered Cell A
+inTable = within (λ refusal. refusal) ofTable
+
+-- where the line's table starts; there is none where window IDs are off
+unfoldable pub startOf : Controls → ℕ → ℕ → Rule Numbered Cell ℕ
+startOf controls tableBytes y = cond (controls .ids) (inTable (lineTableOf tableBytes y)) (done 0)
+
+-- a pixel's ID; off, every ID is 0
+unfoldable pub idAt : Controls → ℕ → ℕ → ℕ → Rule Numbered Cell ℕ
+idAt controls tableBytes start x = cond (controls .ids) (inTable (idOf tableBytes start x)) (done 0)
+
+-- what a window entry says, or 9 where it is undefined
+abbrev pub definedAt : ℕ → Decoded → Rule Numbered Cell Entry
+definedAt x (Defined entry) = done entry
+definedAt x Undefined = stop (numbered (UndefinedEntry x))
+
+-- a pixel's window entry, whatever covers the pixel: 8 where it has no ID, else 9 where the entry of its ID is undefined
+unfoldable pub entryAt : Controls → ℕ → ℕ → ℕ → Rule Numbered Cell Entry
+entryAt controls tableBytes start x = do
+  id ← idAt controls tableBytes start x
+  word ← get (windowEntry id)
+  definedAt x (decoded word (controls .depth))
+
+-- every pixel's, left to right, or the first fault
+unfoldable pub entriesOf : Setup → Rule Numbered Cell (List Entry)
+entriesOf setup = do
+  start ← startOf (setup .controls) (setup .lengths .table) (setup .y)
+  each (entryAt (setup .controls) (setup .lengths .table) start) (setup .controls .width) 0
+
+-- ---- the second pass: colours, which nothing refuses
+
+-- the colour of a pixel, as a rule of the line
+abbrev pub inColours : Rule ⊥ PixelCell ℕ → Rule Numbered Cell ℕ
+inColours = within (λ refusal. absurd refusal) ofColour
+
+-- the colours of pixels with these window entries
+unfoldable pub coloursOf : Setup → List Entry → Rule Numbered Cell (List ℕ)
+coloursOf setup entries = eachOf (λ entry x. inColours (colourOf (screenOf (setup .controls) (setup .y)) entry x)) entries 0
+
+-- ---- the line
+
+-- every colour of a line, or what it is refused for
+unfoldable pub lineRule : Setup → Rule Numbered Cell (List ℕ)
+lineRule setup = do
+  fine ← checked (lineFaults setup)
+  entries ← entriesOf setup
+  coloursOf setup entries
+
+-- the same for what is lent
+unfoldable pub lineOf : Setup → Lent → Outcome Numbered (List ℕ)
+lineOf setup lent = run (view lent) (lineRule setup)

@@ -1,0 +1,107 @@
+// One line of the picture.
+ghost use Prim.Native.Nat.{_<_};
+ghost use mathlib.Core.Path.{_≡_};
+ghost use lib.ListN.{length};
+ghost use Rattle.line.specs.Cells.{lentOf};
+ghost use Rattle.line.specs.Drawn.{told, drawn};
+ghost use Rattle.line.specs.Inner.{Sized, StartTold, CheckedTold};
+use crate::controls::Controls;
+use crate::faults::Fit;
+use crate::setup::Lengths;
+use crate::setup::Setup;
+use chip::state::State;
+use refusals::Refusal;
+use windows::frame::LineTable;
+
+// What a line answers.
+pub enum Answer {
+    Drawn,
+    Refused(Refusal),
+}
+
+// The state that a line hands back, and its answer.
+pub struct Drawn {
+    pub state: State,
+    pub answer: Answer,
+}
+
+impl Controls {
+    // Where the line table of line y starts; with window IDs off there is none.
+    fn start(self, table: &[u8], y: u32) -> LineTable
+        ensures { λ r. ⌜ StartTold self (now (table .entry)) y r ⌝ }
+    {
+        if self.ids {
+            return windows::frame::line_table(table, y);
+        }
+        LineTable::Starts(0)
+    }
+}
+
+impl Setup {
+    // Every check of a line, pixel by pixel too: where its line table starts, or the refusal.
+    fn checked(self, store: &[u32], table: &[u8]) -> LineTable
+        requires { ⌜ Sized (self .controls) × (length (now store) ≡ self .lengths .store) × (length (now table) ≡ self .lengths .table) ⌝ }
+        ensures { λ r. ⌜ CheckedTold self (now (store .entry)) (now (table .entry)) r ⌝ }
+    {
+        let fit = self.fit();
+        let controls = self.controls;
+        match fit {
+            Fit::Refused(refusal) => LineTable::Refused(refusal),
+            Fit::Yes => {
+                let found = controls.start(table, self.y);
+                match found {
+                    LineTable::Refused(refusal) => LineTable::Refused(refusal),
+                    LineTable::Starts(start) => {
+                        let fit = controls.check(store, table, start);
+                        match fit {
+                            Fit::Refused(refusal) => LineTable::Refused(refusal),
+                            Fit::Yes => LineTable::Starts(start),
+                        }
+                    }
+                }
+            }
+        }
+    }
+}
+
+// Draws line y into the front of the output, or refuses it and leaves all as it was.
+pub fn draw(
+    state: State,
+    y: u32,
+    store: &[u32],
+    table: &[u8],
+    normal: &[u8],
+    overlay: &[u8],
+    out: &mut [u32],
+) -> Drawn
+    ensures { λ r. ⌜ ((r .state, now (out .exit)), told (r .answer)) ≡ drawn state y (lentOf (now (store .entry)) (now (table .entry)) (now (normal .entry)) (now (overlay .entry))) (now (out .entry)) ⌝ }
+{
+    let control = state.control;
+    let setup = Setup {
+        good: state.good(),
+        controls: Controls::of(control),
+        y,
+        lengths: Lengths {
+            store: store.len(),
+            table: table.len(),
+            normal: normal.len(),
+            overlay: overlay.len(),
+            output: out.len(),
+        },
+    };
+    let checked = setup.checked(store, table);
+    match checked {
+        LineTable::Refused(refusal) => Drawn {
+            state,
+            answer: Answer::Refused(refusal),
+        },
+        LineTable::Starts(start) => {
+            let controls = setup.controls;
+            controls.draw(y, store, table, start, normal, overlay, out);
+            Drawn {
+                state,
+                answer: Answer::Drawn,
+            }
+        }
+    }
+}

@@ -1,0 +1,7 @@
+// One drawn line.
+mod controls;
+pub mod draw;
+mod faults;
+mod passes;
+mod runs;
+mod setup;

@@ -1,0 +1,68 @@
+// The two passes over a line: every run is checked, and then every run is drawn.
+ghost use mathlib.Core.Path.{_≡_};
+ghost use lib.ListN.{length};
+ghost use Rattle.registers.specs.Store.{storeLength};
+ghost use Rattle.line.specs.Cells.{lentOf};
+ghost use Rattle.line.specs.Inner.{Sized, Entries, EntriesTold, Enough, coloured};
+use crate::controls::Controls;
+use crate::faults::Fit;
+use crate::runs::RunAt;
+
+impl Controls {
+    // The first pass: whether every pixel has a defined window entry.
+    pub fn check(self, store: &[u32], table: &[u8], start: usize) -> Fit
+        requires { ⌜ length (now store) ≡ storeLength ⌝ }
+        ensures { λ r. ⌜ EntriesTold self (now (store .entry)) (now (table .entry)) start r ⌝ }
+    {
+        let mut x = 0;
+        let mut from = 0;
+        while x < self.width {
+            let run = self.run_at(store, table, start, from, x);
+            match run {
+                RunAt::Refused(refusal) => return Fit::Refused(refusal),
+                RunAt::Is(run) => {
+                    x = run.end;
+                    from = run.next;
+                }
+            }
+        }
+        Fit::Yes
+    }
+
+    // The second pass: each run into the part of the output that starts at its first pixel.
+    pub fn draw(
+        self,
+        y: u32,
+        store: &[u32],
+        table: &[u8],
+        start: usize,
+        normal: &[u8],
+        overlay: &[u8],
+        out: &mut [u32],
+    )
+        requires { ⌜ Sized self × Enough self (lentOf (now store) (now table) (now normal) (now overlay)) (now out) × Entries self (now store) (now table) start ⌝ }
+        ensures { λ _. ⌜ now (out .exit) ≡ coloured self y (lentOf (now (store .entry)) (now (table .entry)) (now (normal .entry)) (now (overlay .entry))) start (now (out .entry)) ⌝ }
+    {
+        let screen = self.screen(y);
+        let mut x = 0;
+        let mut from = 0;
+        while x < self.width {
+            let RunAt::Is(run) = self.run_at(store, table, start, from, x) else {
+                return;
+            };
+            let first = x as usize;
+            let count = (run.end - x) as usize;
+            screen.fill(
+                run.entry,
+                store,
+                normal,
+                overlay,
+                first,
+                count,
+                &mut out[first..],
+            );
+            x = run.end;
+            from = run.next;
+        }
+    }
+}

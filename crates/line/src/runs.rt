@@ -1,0 +1,71 @@
+// Runs: the pixels that one line entry serves, with what their window entry says.
+ghost use Prim.Native.Nat.{_<_};
+ghost use mathlib.Core.Path.{_≡_};
+ghost use lib.ListN.{length};
+ghost use Rattle.registers.specs.Store.{storeLength};
+ghost use Rattle.line.specs.Inner.{PassedAt, Served, RunTold};
+use crate::controls::Controls;
+use colour::entry::Decoded;
+use colour::entry::Entry;
+use refusals::Refusal;
+use windows::ids::Found;
+use windows::ids::LookedUp;
+
+// What the window entry of a run says, the pixel behind its last, and the line entry to go on from.
+pub struct Run {
+    pub entry: Entry,
+    pub end: u32,
+    pub next: usize,
+}
+
+// The run that starts at a pixel, or the refusal.
+pub enum RunAt {
+    Is(Run),
+    Refused(Refusal),
+}
+
+impl Controls {
+    // The ID of pixel x with the pixels that have it too; off, every ID is 0.
+    fn id_at(self, table: &[u8], start: usize, from: usize, x: u32) -> LookedUp
+        requires { ⌜ PassedAt self (now table) start from x × (x < self .width) ⌝ }
+        ensures { λ r. ⌜ Served self (now (table .entry)) start x r ⌝ }
+    {
+        if self.ids {
+            return windows::ids::look_up(table, start, from, x);
+        }
+        LookedUp::Id(Found {
+            id: 0,
+            last: self.width,
+            next: 0,
+        })
+    }
+
+    // The run that starts at pixel x.
+    pub fn run_at(self, store: &[u32], table: &[u8], start: usize, from: usize, x: u32) -> RunAt
+        requires { ⌜ PassedAt self (now table) start from x × (x < self .width) × (length (now store) ≡ storeLength) ⌝ }
+        ensures { λ r. ⌜ RunTold self (now (store .entry)) (now (table .entry)) start x r ⌝ }
+    {
+        let looked = self.id_at(table, start, from, x);
+        let LookedUp::Id(found) = looked else {
+            return match looked {
+                LookedUp::Id(_) => RunAt::Refused(Refusal::NoLineEntry(x)),
+                LookedUp::Refused(refusal) => RunAt::Refused(refusal),
+            };
+        };
+        let id = found.id as usize;
+        let decoded = colour::entry::decode(store[id], self.depth);
+        let Decoded::Defined(entry) = decoded else {
+            return RunAt::Refused(Refusal::UndefinedEntry(x));
+        };
+        let end = if found.last < self.width {
+            found.last + 1
+        } else {
+            self.width
+        };
+        RunAt::Is(Run {
+            entry,
+            end,
+            next: found.next,
+        })
+    }
+}

@@ -1,0 +1,62 @@
+-- Which cursor colour shows, case by case. Assumes nothing.
+use Prim.Native.Nat.{ℕ, _+_, _-_, _≤_, _<_}
+use mathlib.Core.Path.{_≡_}
+use mathlib.Core.Bool.{true, false, and-false, or-true}
+use borrow.Author.Tests.{le-leb, lt-leb, eq-eqb, ne-eqb}
+use lib.Dec.{leb, eqb}
+use Rattle.rules.specs.Rule.{value}
+use Rattle.pixels.specs.Cells.{PixelCell, glyph}
+use Rattle.pixels.specs.Cursor.{within32, inGlyph, onCrossHair, cursorAt}
+use Rattle.pixels.specs.declared.Screen.{Screen}
+
+module _ (memory : PixelCell → ℕ) (screen : Screen) (x : ℕ) where
+  -- the cursor is off
+  pub cursor-off : screen .cursor ≡ false → value memory (cursorAt screen x) ≡ 0
+  unfolding cursorAt
+  cursor-off off = rw off
+
+  module _ (on : screen .cursor ≡ true) where
+    module _ (cross : screen .crosshair ≡ true) where
+      -- the pixel is on the upright line of the cross-hair
+      pub on-column : x ≡ screen .cx → value memory (cursorAt screen x) ≡ 1
+      unfolding cursorAt onCrossHair
+      on-column is = rw (on, cross, eq-eqb x (screen .cx) is)
+
+      -- or on the level one
+      pub on-row : screen .y ≡ screen .cy → value memory (cursorAt screen x) ≡ 1
+      unfolding cursorAt onCrossHair
+      on-row is = rw (on, cross, eq-eqb (screen .y) (screen .cy) is, or-true (eqb x (screen .cx)))
+
+      -- or on neither
+      pub off-cross-hair : (x ≡ screen .cx → ⊥) → (screen .y ≡ screen .cy → ⊥) → value memory (cursorAt screen x) ≡ 0
+      unfolding cursorAt onCrossHair
+      off-cross-hair column row = rw (on, cross, ne-eqb x (screen .cx) column, ne-eqb (screen .y) (screen .cy) row)
+
+    module _ (no-cross : screen .crosshair ≡ false) where
+      -- the pixel is right of the glyph
+      pub right-of : screen .cx < x → value memory (cursorAt screen x) ≡ 0
+      unfolding cursorAt inGlyph
+      right-of h = rw (on, no-cross, lt-leb x (screen .cx) h, and-false (leb (screen .cx) (x + 31)))
+
+      -- left of it
+      pub left-of : x + 31 < screen .cx → value memory (cursorAt screen x) ≡ 0
+      unfolding cursorAt inGlyph
+      left-of h = rw (on, no-cross, lt-leb (screen .cx) (x + 31) h)
+
+      -- below it
+      pub below : screen .cy < screen .y → value memory (cursorAt screen x) ≡ 0
+      unfolding cursorAt inGlyph
+      below h =
+          rw (on, no-cross, lt-leb (screen .y) (screen .cy) h, and-false (leb (screen .cy) (screen .y + 31)), and-false (within32 (screen .cx) x))
+
+      -- above it
+      pub above : screen .y + 31 < screen .cy → value memory (cursorAt screen x) ≡ 0
+      unfolding cursorAt inGlyph
+      above h = rw (on, no-cross, lt-leb (screen .cy) (screen .y + 31) h, and-false (within32 (screen .cx) x))
+
+      -- in it
+      pub in-glyph : x ≤ screen .cx → screen .cx ≤ x + 31 → screen .y ≤ screen .cy → screen .cy ≤ screen .y + 31
+          → value memory (cursorAt screen x) ≡ memory (glyph (screen .y + 31 - screen .cy) (x + 31 - screen .cx))
+      unfolding cursorAt inGlyph
+      in-glyph right left bottom top =
+          rw (on, no-cross, le-leb x (screen .cx) right, le-leb (screen .cx) (x + 31) left, le-leb (screen .y) (screen .cy) bottom, le-leb (screen .cy) (screen .y + 31) top)

@@ -1,0 +1,88 @@
+-- What a pixel shows, layer by layer. Assumes nothing.
+use Prim.Native.Nat.{ℕ, _+_, _≤_, _<_}
+use mathlib.Core.Path.{_≡_, refl, sym, ap, _∙_}
+use mathlib.Core.Bool.{true, false}
+use mathlib.Core.List.{List}
+use borrow.Author.Tests.{eq-eqb, ne-eqb}
+use Rattle.rules.specs.Rule.{value}
+use Rattle.rules.specs.Lists.{filled}
+use Rattle.rules.proofs.Value.{value-then}
+use Rattle.rules.proofs.Fill.{filled-same}
+use Rattle.words.specs.Channels.{wordOf}
+use Rattle.words.specs.declared.Rgb.{Rgb}
+use Rattle.formats.specs.Table.{widthsOf}
+use Rattle.colour.specs.Shown.{shownOf}
+use Rattle.colour.specs.declared.entry.Entry.{Entry}
+use Rattle.colour.specs.declared.entry.Shown.{Shown}
+use Rattle.colour.specs.declared.entry.Shown.the-variants.{MapEntry, Colour}
+use Rattle.pixels.specs.Cells.{PixelCell, cursorColour, overlayByte, sample, mapEntry}
+use Rattle.pixels.specs.Cursor.{cursorAt}
+use Rattle.pixels.specs.Colour.{throughGamma, shownColour, normalAt, plainAt, overlaid, overlayCounts, overlayAt, underCursor, cursorShown, colourOf}
+use Rattle.pixels.specs.declared.Screen.{Screen}
+
+module _ (memory : PixelCell → ℕ) (depth : ℕ) (entry : Entry) (x : ℕ) {word : ℕ} where
+  -- the normal colour by what the sample shows
+  normal-of : {shown : Shown} → shownOf entry (memory (sample depth x (entry .low) (widthsOf (entry .format) .bits))) ≡ shown
+      → word ≡ value memory (shownColour shown) → word ≡ value memory (normalAt depth entry x)
+  unfolding normalAt
+  normal-of shows is = is ∙ sym (ap (λ (s : Shown). value memory (shownColour s)) shows)
+
+  -- the sample shows an entry of the map
+  pub normal-of-map : {number : ℕ} → shownOf entry (memory (sample depth x (entry .low) (widthsOf (entry .format) .bits))) ≡ MapEntry number
+      → word ≡ memory (mapEntry number) → word ≡ value memory (normalAt depth entry x)
+  normal-of-map shows is = normal-of shows is
+
+  -- the sample shows a colour
+  pub normal-of-colour : {colour : Rgb} → shownOf entry (memory (sample depth x (entry .low) (widthsOf (entry .format) .bits))) ≡ Colour colour
+      → word ≡ wordOf colour → word ≡ value memory (normalAt depth entry x)
+  normal-of-colour shows is = normal-of shows is
+
+  -- a plain colour is the normal one through gamma
+  pub plain-of-normal : {normal : ℕ} → normal ≡ value memory (normalAt depth entry x) → word ≡ value memory (throughGamma (entry .bypass) normal)
+      → word ≡ value memory (plainAt depth entry x)
+  unfolding plainAt
+  plain-of-normal of is = rw (value-then memory (normalAt depth entry x) (throughGamma (entry .bypass)), ← of) is
+
+module _ (memory : PixelCell → ℕ) (screen : Screen) (entry : Entry) (x : ℕ) where
+  -- overlay counts
+  pub overlay-byte : overlayCounts screen entry ≡ true → memory (overlayByte x) ≡ value memory (overlayAt screen entry x)
+  unfolding overlayAt
+  overlay-byte counts = rw counts
+
+  -- overlay doesn't count
+  pub overlay-none : overlayCounts screen entry ≡ false → 0 ≡ value memory (overlayAt screen entry x)
+  unfolding overlayAt
+  overlay-none not-counts = rw not-counts
+
+  module _ {byte word : ℕ} (of : byte ≡ value memory (overlayAt screen entry x)) where
+    -- overlay is transparent
+    pub under-clear : byte ≡ 0 → word ≡ value memory (plainAt (screen .depth) entry x) → word ≡ value memory (underCursor screen entry x)
+    unfolding underCursor
+    under-clear none is = is ∙ sym (value-then memory (overlayAt screen entry x) _ ∙ rw (← of, eq-eqb byte 0 none))
+
+    -- overlay shows
+    pub under-overlay : (byte ≡ 0 → ⊥) → {mapped : ℕ} → mapped ≡ memory (mapEntry (4352 + byte))
+        → word ≡ value memory (throughGamma (entry .bypass) mapped) → word ≡ value memory (underCursor screen entry x)
+    unfolding underCursor overlaid
+    under-overlay some map is = rw map at is ∙ sym (value-then memory (overlayAt screen entry x) _ ∙ rw (← of, ne-eqb byte 0 some))
+
+  module _ {number word : ℕ} (of : number ≡ value memory (cursorAt screen x)) where
+    -- no cursor colour shows
+    pub colour-under : number ≡ 0 → word ≡ value memory (underCursor screen entry x) → word ≡ value memory (colourOf screen entry x)
+    unfolding colourOf
+    colour-under none is = is ∙ sym (value-then memory (cursorAt screen x) _ ∙ rw (← of, eq-eqb number 0 none))
+
+    -- one does, without gamma
+    pub colour-of-cursor : (number ≡ 0 → ⊥) → word ≡ memory (cursorColour number) → word ≡ value memory (colourOf screen entry x)
+    unfolding colourOf cursorShown throughGamma
+    colour-of-cursor some is = is ∙ sym (value-then memory (cursorAt screen x) _ ∙ rw (← of, ne-eqb number 0 some))
+
+module _ (memory : PixelCell → ℕ) (screen : Screen) (entry : Entry) (none : overlayCounts screen entry ≡ false) where
+  -- where neither cursor nor overlay shows, the colour is the plain one
+  pub colour-plain : (x : ℕ) → value memory (cursorAt screen x) ≡ 0 → value memory (plainAt (screen .depth) entry x) ≡ value memory (colourOf screen entry x)
+  colour-plain x clear = colour-under memory screen entry x (sym clear) refl (under-clear memory screen entry x (overlay-none memory screen entry x none) refl refl)
+
+  -- and so it is on a run
+  pub run-plain : (x count : ℕ) (room : List ℕ) {out : List ℕ} → ((p : ℕ) → x ≤ p → p < x + count → value memory (cursorAt screen p) ≡ 0)
+      → out ≡ filled (λ p. value memory (plainAt (screen .depth) entry p)) x room count → out ≡ filled (λ p. value memory (colourOf screen entry p)) x room count
+  run-plain x count room clear is = is ∙ filled-same _ _ x room count (λ p low high. colour-plain p (clear p low high))

@@ -1,0 +1,5 @@
+pub mod Rows
+pub mod Gamma
+pub mod CursorCases
+pub mod LayersCases
+pub mod Unique

@@ -1,0 +1,4 @@
+pub mod Cells
+pub mod Cursor
+pub mod Colour
+pub mod Inner

@@ -1,0 +1,16 @@
+// Pixels: the colour that each pixel of a line shows, and runs of them.
+pub mod cursor;
+pub mod fill;
+pub mod layers;
+mod store;
+
+// What the control words say of every pixel of a line: the switches, the depth, where the cursor is, and the line's number.
+pub struct Screen {
+    pub overlay: bool,
+    pub cursor: bool,
+    pub crosshair: bool,
+    pub depth: u32,
+    pub cx: usize,
+    pub cy: usize,
+    pub y: usize,
+}

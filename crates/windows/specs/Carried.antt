@@ -1,0 +1,28 @@
+-- The look-up carried on from an entry: what the next entry found serves.
+use Prim.Native.Nat.{ℕ, _+_, _<_}
+use Rattle.rules.specs.Rule.{Rule, done, get, _>>=_, Outcome, ok, refused}
+use Rattle.rules.specs.Faults.{Numbered}
+use Rattle.refusals.specs.Refusal.{numbered}
+use Rattle.windows.specs.Table.{TableCell, xend, windowId}
+use Rattle.windows.specs.Ids.{entryByte, lineEntryFrom}
+use Rattle.windows.specs.declared.ids.Found.{Found}
+use Rattle.windows.specs.declared.ids.LookedUp.{LookedUp}
+use Rattle.windows.specs.declared.ids.LookedUp.the-variants.{Id, Refused}
+
+-- what the first entry, from entry `from` on, with xend ≥ x serves: its ID, its last pixel, and the entry to go on from after that
+unfoldable pub foundFrom : ℕ → ℕ → ℕ → ℕ → Rule Numbered TableCell Found
+foundFrom length start from x = do
+  entry ← lineEntryFrom length start from x
+  last ← get (xend (entryByte start entry))
+  id ← get (windowId (entryByte start entry))
+  done (record { id = id; last = last; next = entry + 1 })
+
+-- what the look-up's answer says: what was found, or a refusal's number and values
+abbrev pub told : LookedUp → Outcome Numbered Found
+told (Id found) = ok found
+told (Refused refusal) = refused (numbered refusal)
+
+-- an ID is one of 32
+abbrev pub idBelow : LookedUp → Type 0
+idBelow (Id found) = found .id < 32
+idBelow (Refused refusal) = Unit {0}

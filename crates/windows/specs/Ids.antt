@@ -1,0 +1,30 @@
+-- Which ID a pixel has.
+use Prim.Native.Nat.{ℕ, _+_, _-_, _*_, _/_, min}
+use Rattle.rules.specs.Rule.{Rule, get, _>>=_}
+use Rattle.rules.specs.Faults.{Numbered}
+use Rattle.refusals.specs.Refusal.{numbered}
+use Rattle.refusals.specs.declared.Refusal.the-variants.{NoLineEntry}
+use Rattle.windows.specs.Table.{TableCell, xend, windowId}
+use Rattle.windows.specs.Search.{entryFrom}
+
+-- where the line table that starts at a byte ends: with its 512-byte block or with the table
+abbrev pub lineTableEnd : ℕ → ℕ → ℕ
+lineTableEnd length start = min (512 * (start / 512) + 512) length
+
+-- its entries, whole ones only
+abbrev pub lineEntries : ℕ → ℕ → ℕ
+lineEntries length start = (lineTableEnd length start - start) / 2
+
+-- the byte at which an entry of it stands
+abbrev pub entryByte : ℕ → ℕ → ℕ
+entryByte start entry = start + 2 * entry
+
+-- pixel x has the first entry with xend ≥ x; where there is none, 8. The search may go on from an entry
+abbrev pub lineEntryFrom : ℕ → ℕ → ℕ → ℕ → Rule Numbered TableCell ℕ
+lineEntryFrom length start from x = entryFrom (numbered (NoLineEntry x)) (λ entry. xend (entryByte start entry)) (lineEntries length start) from x
+
+-- its ID
+unfoldable pub idOf : ℕ → ℕ → ℕ → Rule Numbered TableCell ℕ
+idOf length start x = do
+  entry ← lineEntryFrom length start 0 x
+  get (windowId (entryByte start entry))

@@ -1,0 +1,5 @@
+pub mod Table
+pub mod Search
+pub mod Frame
+pub mod Ids
+pub mod Carried

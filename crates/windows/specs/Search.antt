@@ -1,0 +1,13 @@
+-- The search for an end, of frame entries and of line entries alike.
+use Prim.Native.Nat.{ℕ, _-_}
+use lib.Dec.{leb}
+use Rattle.rules.specs.Rule.{Rule}
+use Rattle.rules.specs.First.{firstFrom}
+
+-- of `count` entries the first, from entry `from` on, whose end is at least `position`
+unfoldable pub entryFrom : {R Q : Type 0} → R → (ℕ → Q) → ℕ → ℕ → ℕ → Rule R Q ℕ
+entryFrom missing end count from position = firstFrom missing end (leb position) (count - from) from
+
+-- of all of them the first
+abbrev pub entryAt : {R Q : Type 0} → R → (ℕ → Q) → ℕ → ℕ → Rule R Q ℕ
+entryAt missing end count position = entryFrom missing end count 0 position

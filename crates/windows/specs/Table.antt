@@ -1,0 +1,25 @@
+-- The window-ID table: its entries and their fields.
+use Prim.Native.Nat.{ℕ, _+_, _*_}
+use mathlib.Core.List.{List}
+use Rattle.words.specs.Field.{field}
+use Rattle.words.specs.Bytes.{bigEndian}
+
+-- the cells of a table: of a frame entry, by its number, its end and where its line table starts; of a line entry, by the byte at which it stands, its end and its ID
+pub data TableCell : Type 0 where
+  yend lineTable : ℕ → TableCell
+  xend windowId : ℕ → TableCell
+
+-- frame entries are 32 bits, from byte 0
+abbrev pub frameEntry : List ℕ → ℕ → ℕ
+frameEntry table number = bigEndian table (4 * number) 4
+
+-- line entries are 16 bits
+abbrev pub lineEntry : List ℕ → ℕ → ℕ
+lineEntry table byte = bigEndian table byte 2
+
+-- of a frame entry yend is 26..16, block 14..8 and offset 7..0, of a line entry xend 15..5 and ID 4..0; no other bit is in a cell
+abbrev pub tableView : List ℕ → TableCell → ℕ
+tableView table (yend number) = field (frameEntry table number) 26 16
+tableView table (lineTable number) = 512 * field (frameEntry table number) 14 8 + 2 * field (frameEntry table number) 7 0
+tableView table (xend byte) = field (lineEntry table byte) 15 5
+tableView table (windowId byte) = field (lineEntry table byte) 4 0

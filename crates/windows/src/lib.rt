@@ -1,0 +1,3 @@
+// Window IDs: the table that gives each pixel of a line its ID.
+pub mod frame;
+pub mod ids;

@@ -1,0 +1,89 @@
+//! A line's answer rests on what it reads alone: all else may change.
+
+use crate::case::Case;
+use crate::model::reads::Reads;
+use crate::numbers::Numbers;
+use crate::pair::{Answer, Pair};
+
+/// Changes all that a case, whose answer is known, doesn't read, and compares the library's answer with the one it had.
+pub fn compare(pair: &mut Pair, case: &Case, answer: &Answer, numbers: &mut Numbers) -> Result<(), String> {
+    let reads = case.reads();
+    let changed = changed(case, &reads, numbers);
+    assert!(changed.reads() == reads, "the model reads other cells of\n{changed}than of\n{case}");
+    let (of_model, output) = changed.of_model();
+    let (number, place) = of_model.err().unwrap_or((0, 0));
+    let wanted = carried_over(case, answer, &changed);
+    assert!(wanted == Answer { number, place, output }, "the model rests on more than it lists:\n{changed}and\n{case}");
+    pair.tally.count_unread();
+    if pair.of_library(&changed).answer == wanted {
+        return Ok(());
+    }
+    let changed = fewest_changes(pair, case, changed, answer);
+    let library = pair.of_library(&changed).answer;
+    let bits = changed_bits(case, changed);
+    Err(format!("{answer}\n  becomes {library}\n  in {}where bits change that aren't read, {bits}", case.read_alone()))
+}
+
+/// A case that is the same in all that the first one reads, and has zeros, ones or anything in all else.
+fn changed(case: &Case, reads: &Reads, numbers: &mut Numbers) -> Case {
+    let (set, cleared) = numbers.pick(&[(0, 0), (u32::MAX, 0), (0, u32::MAX), (0, 0)]);
+    let mut any = || numbers.next() & !cleared | set;
+    let mut changed = case.clone();
+    for (word, mask) in changed.store.iter_mut().zip(&reads.store) {
+        *word = *word & mask | any() & !mask;
+    }
+    for (part, masks) in BYTES.into_iter().zip([&reads.table, &reads.normal, &reads.overlay]) {
+        for (byte, mask) in part(&mut changed).iter_mut().zip(masks) {
+            *byte = *byte & mask | any() as u8 & !mask;
+        }
+    }
+    changed.output.fill_with(any);
+    changed
+}
+
+/// The bits in which two cases differ, as a case.
+fn changed_bits(case: &Case, mut changed: Case) -> Case {
+    let mut before = case.clone();
+    for (word, before) in changed.store.iter_mut().zip(&before.store) {
+        *word ^= before;
+    }
+    for part in BYTES {
+        for (byte, before) in part(&mut changed).iter_mut().zip(part(&mut before)) {
+            *byte ^= *before;
+        }
+    }
+    changed
+}
+
+/// The parts that are bytes.
+const BYTES: [fn(&mut Case) -> &mut Vec<u8>; 3] =
+    [|case| &mut case.table, |case| &mut case.normal, |case| &mut case.overlay];
+
+/// The answer that a changed case has to have: the first one's, with the words that stay in the output.
+fn carried_over(case: &Case, answer: &Answer, changed: &Case) -> Answer {
+    let drawn = if answer.number == 0 { case.width() as usize } else { 0 };
+    Answer { output: [&answer.output[..drawn], &changed.output[drawn..]].concat(), ..answer.clone() }
+}
+
+/// A changed case that still shows a difference, with every word and byte put back that can be.
+fn fewest_changes(pair: &mut Pair, case: &Case, mut changed: Case, answer: &Answer) -> Case {
+    let mut before = case.clone();
+    let mut keep_if_differs = |changed: &mut Case, candidate: Case| {
+        if pair.of_library(&candidate).answer != carried_over(case, answer, &candidate) {
+            *changed = candidate;
+        }
+    };
+    for index in 0..before.store.len() {
+        let mut candidate = changed.clone();
+        candidate.store[index] = before.store[index];
+        keep_if_differs(&mut changed, candidate);
+    }
+    for part in BYTES {
+        for index in 0..part(&mut before).len() {
+            let mut candidate = changed.clone();
+            part(&mut candidate)[index] = part(&mut before)[index];
+            keep_if_differs(&mut changed, candidate);
+        }
+    }
+    changed
+}
