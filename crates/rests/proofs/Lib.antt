@@ -1,0 +1,17 @@
+pub mod Demand
+pub mod Before
+pub mod Parts
+pub mod Passes
+pub mod Colours
+pub mod ListedColours
+pub mod LookUps
+pub mod Frames
+pub mod Pixels
+pub mod MetPixels
+pub mod Early
+pub mod OnlyListed
+pub mod AllListed
+pub mod ByList
+pub mod Outputs
+pub mod Active
+pub mod Hidden

@@ -1,0 +1,5 @@
+pub mod Calls
+pub mod TableList
+pub mod ColourList
+pub mod Listed
+pub mod Hidden
