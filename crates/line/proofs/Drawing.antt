@@ -1,25 +1,23 @@
 -- The second pass: a line drawn run by run is filled with its colours. Assumes nothing.
 use Prim.Native.Nat.{ℕ, _+_, _-_, _*_, _/_, _≤_, _<_}
 use mathlib.Core.Path.{_≡_, refl, sym, ap, _∙_}
-use mathlib.Core.Bool.{Bool, true, false, true≢false, _&&_}
+use mathlib.Core.Bool.{Bool, true, false, _&&_}
 use mathlib.Core.List.{List}
 use mathlib.Core.Logic.{⊎-elim}
 use native.Mathlib.Omega.{arith}
 use borrow.Rule.Slice.PartMut.{putMid}
 use lib.ListN.{length, take, drop, length-drop}
-use Rattle.rules.specs.Rule.{Outcome, ok, refused, run, value}
+use Rattle.rules.specs.Rule.{Outcome, run, value}
 use Rattle.rules.specs.Lists.{filled}
 use Rattle.rules.specs.Faults.{Numbered}
 use Rattle.rules.proofs.Cases.{impossible}
 use Rattle.rules.proofs.Fill.{fill-run, filled-length, tail-lent}
 use Rattle.refusals.specs.declared.Refusal.{Refusal}
 use Rattle.colour.specs.declared.entry.Entry.{Entry}
-use Rattle.registers.specs.Store.{storeLength}
 use Rattle.pixels.specs.Cells.{pixelView}
-use Rattle.pixels.specs.Colour.{SaidAt, overlayCounts, colourOf}
+use Rattle.pixels.specs.Colour.{overlayCounts, colourOf}
 use Rattle.line.specs.Controls.{screenOf}
-use Rattle.line.specs.Cells.{Lent, lentOf, view}
-use Rattle.line.specs.Line.{normalLength, entryAt}
+use Rattle.line.specs.Cells.{Lent, lentOf}
 use Rattle.line.specs.Inner.{Sized, RunTold, Entries, colourBy, colourAt, Enough}
 use Rattle.line.specs.declared.controls.Controls.{Controls}
 use Rattle.line.specs.declared.runs.Run.{Run}

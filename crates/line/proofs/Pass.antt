@@ -1,13 +1,13 @@
 -- The two passes over a line's runs, as the loops make them. Assumes nothing.
-use Prim.Native.Nat.{ℕ, _+_, _≤_, _<_}
-use mathlib.Core.Path.{_≡_, refl, sym, ap, _∙_}
-use mathlib.Core.Bool.{true, false}
+use Prim.Native.Nat.{ℕ, _≤_, _<_}
+use mathlib.Core.Path.{_≡_, sym, ap, _∙_}
+use mathlib.Core.Bool.{false}
 use mathlib.Core.List.{List}
 use mathlib.Core.Logic.{⊎-elim}
 use native.Mathlib.Nat.{zero-add}
 use native.Mathlib.Omega.{arith}
 use lib.ListN.{length}
-use Rattle.rules.specs.Rule.{Outcome, ok, refused, run, value}
+use Rattle.rules.specs.Rule.{Outcome, ok, refused, run}
 use Rattle.rules.specs.Lists.{values}
 use Rattle.rules.specs.Each.{each}
 use Rattle.rules.specs.Faults.{Numbered}
@@ -17,8 +17,8 @@ use Rattle.refusals.specs.Refusal.{numbered}
 use Rattle.refusals.specs.declared.Refusal.{Refusal}
 use Rattle.formats.specs.declared.Format.the-variants.{Index8}
 use Rattle.colour.specs.declared.entry.Entry.{Entry}
-use Rattle.windows.proofs.Pixels.{passed-start}
 use Rattle.windows.specs.Table.{tableView}
+use Rattle.windows.proofs.Pixels.{passed-start}
 use Rattle.line.specs.Cells.{lentOf, view}
 use Rattle.line.specs.Line.{entryAt}
 use Rattle.line.specs.Inner.{Over, PassedAt, RunTold, Entries}

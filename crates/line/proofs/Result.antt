@@ -1,13 +1,12 @@
 -- What a line leaves and answers, by what its rule comes to. Assumes nothing.
-use Prim.Native.Nat.{ℕ, _+_, _<_, _≤_}
+use Prim.Native.Nat.{ℕ}
 use mathlib.Core.Path.{_≡_, refl, sym, ap, _∙_}
 use mathlib.Core.Bool.{Bool, true, false, cond}
 use mathlib.Core.List.{List}
 use mathlib.Core.Logic.{_⊎_, inl, inr}
 use native.Mathlib.Omega.{arith}
 use lib.ListN.{length, getD}
-use Rattle.rules.specs.Rule.{Outcome, ok, refused, run}
-use Rattle.rules.specs.Lists.{values}
+use Rattle.rules.specs.Rule.{Outcome, run}
 use Rattle.rules.specs.Faults.{Numbered}
 use Rattle.chip.specs.declared.state.State.{State}
 use Rattle.line.specs.Controls.{switch, depthOf, controlsOf}

@@ -1,7 +1,5 @@
 -- No second answer meets the contract of a line, and none leaves another output. Assumes nothing.
-use Prim.Native.Nat.{ℕ}
 use mathlib.Core.Path.{_≡_, refl, ap, sym, _∙_}
-use mathlib.Core.List.{List}
 use denote.Ref.{now}
 use Rattle.rules.specs.Rule.{Outcome, ok, refused}
 use Rattle.rules.specs.Faults.{Numbered}

@@ -1,15 +1,14 @@
 -- The whole rule of a line, by what its checks and passes come to. Assumes nothing.
 use Prim.Native.Nat.{ℕ, _≤_}
-use mathlib.Core.Path.{_≡_, refl, sym, ap, _∙_}
-use mathlib.Core.Bool.{Bool, true, false, true≢false, not, _&&_}
+use mathlib.Core.Path.{_≡_, sym, ap, _∙_}
+use mathlib.Core.Bool.{Bool, true, false, true≢false, _&&_}
 use mathlib.Core.List.{List}
 use native.Mathlib.Omega.{arith}
 use borrow.Author.Tests.{eqb-true, ltb-false, not-false}
-use lib.Dec.{eqb}
 use lib.ListN.{length}
-use Rattle.rules.specs.Rule.{Rule, Outcome, ok, refused, run, _>>=_, value}
+use Rattle.rules.specs.Rule.{Rule, Outcome, ok, refused, run, _>>=_}
 use Rattle.rules.specs.Lists.{values}
-use Rattle.rules.specs.Each.{each, eachOf}
+use Rattle.rules.specs.Each.{each}
 use Rattle.rules.specs.Faults.{Numbered}
 use Rattle.rules.specs.Checked.{checked, verdict}
 use Rattle.rules.proofs.Then.{run-ok, run-refused}
@@ -18,7 +17,7 @@ use Rattle.rules.proofs.Checked.{run-checked, clear-verdict}
 use Rattle.rules.proofs.Value.{run-within-value}
 use Rattle.colour.specs.declared.entry.Entry.{Entry}
 use Rattle.registers.specs.Store.{storeLength}
-use Rattle.pixels.specs.Cells.{PixelCell, pixelView}
+use Rattle.pixels.specs.Cells.{pixelView}
 use Rattle.pixels.specs.Colour.{colourOf}
 use Rattle.line.specs.Controls.{screenOf}
 use Rattle.line.specs.Cells.{Cell, ofColour, Lent, lentOf, view}

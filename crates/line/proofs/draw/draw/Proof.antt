@@ -10,15 +10,12 @@ use Rattle.windows.specs.declared.frame.LineTable.{LineTable}
 use Rattle.chip.proofs.state.State.good.Reads as good-reads
 use Rattle.line.specs.Cells.{lentOf}
 use Rattle.line.specs.Drawn.{setupOf}
-use Rattle.line.specs.Inner.{Sized, CheckedTold}
-use Rattle.line.specs.Inner.{Sized}
+use Rattle.line.specs.Inner.{Sized, CheckedTold, Drawable}
 use Rattle.line.specs.declared.setup.Setup.{Setup}
 use Rattle.line.proofs.Result.{controls-sized, drawn-by}
-use Rattle.line.proofs.Result.{controls-sized}
 use Rattle.line.proofs.Whole.{fitted, line-drawn}
 use Rattle.line.proofs.draw.draw.Statement.{statement}
 use Rattle.line.proofs.draw.draw.Tie as tie
-use Rattle.line.specs.Inner.{Drawable}
 use Rattle.line.proofs.controls.Controls.draw.Reads as draw-reads
 use Rattle.line.proofs.controls.Controls.of.Reads as of-reads
 use Rattle.line.proofs.draw.draw.Reads as reads

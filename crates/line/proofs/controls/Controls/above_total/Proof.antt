@@ -1,6 +1,5 @@
 -- `line::controls::Controls::above_total` meets its contract: across, then down. Assumes nothing.
 use mathlib.Core.Path.{refl}
-use mathlib.Core.Path.{refl}
 use borrow.Author.Needs.{needs}
 use borrow.Author.Tests.{lt-ltb, le-ltb}
 use Rattle.line.specs.Line.{aboveTotal}

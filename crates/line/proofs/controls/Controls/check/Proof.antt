@@ -6,9 +6,8 @@ use borrow.Author.Needs.{needs}
 use denote.Ref.{now}
 use Rattle.line.specs.Inner.{RunTold}
 use Rattle.line.specs.declared.runs.RunAt.{RunAt}
-use Rattle.line.proofs.Pass.{Passing, pass-start, pass-refused, pass-over}
-use Rattle.line.proofs.Pass.{Passing, pass-start, pass-run, pass-refused, pass-over}
 use Rattle.line.specs.declared.runs.RunAt.the-variants.{Is}
+use Rattle.line.proofs.Pass.{Passing, pass-start, pass-refused, pass-over, pass-run}
 use Rattle.line.proofs.controls.Controls.check.Statement.{statement}
 use Rattle.line.proofs.controls.Controls.check.Tie as tie
 use Rattle.line.proofs.controls.Controls.run_at.Reads as run-at-reads

@@ -1,6 +1,6 @@
 -- `line::controls::Controls::normal_length` meets its contract: 4 bytes a pixel at depth 32, else 2. Assumes nothing.
 use Prim.Native.Nat.{_/_}
-use mathlib.Core.Logic.{_⊎_, ⊎-elim}
+use mathlib.Core.Logic.{⊎-elim}
 use mathlib.Core.Path.{_≡_, refl, _∙_}
 use native.Mathlib.Omega.{arith}
 use borrow.Author.Needs.{needs}

@@ -5,14 +5,11 @@ use denote.Ref.{now}
 use Rattle.rules.specs.Checked.{verdict}
 use Rattle.rules.specs.Rule.{ok}
 use Rattle.windows.specs.declared.frame.LineTable.the-variants.{Starts}
-use Rattle.windows.specs.declared.frame.LineTable.the-variants.{Starts}
 use Rattle.windows.specs.declared.frame.LineTable.{LineTable}
 use Rattle.line.specs.Cells.{lentOf}
-use Rattle.line.specs.Inner.{fitTold, StartTold}
 use Rattle.line.specs.Inner.{fitTold, StartTold, EntriesTold}
 use Rattle.line.specs.Line.{lineFaults}
 use Rattle.line.specs.declared.faults.Fit.{Fit}
-use Rattle.line.proofs.Whole.{fitted, line-unfit, line-no-table}
 use Rattle.line.proofs.Whole.{fitted, line-unfit, line-no-table, line-no-entry}
 use Rattle.line.proofs.setup.Setup.checked.Statement.{statement}
 use Rattle.line.proofs.setup.Setup.checked.Tie as tie

@@ -1,6 +1,5 @@
 -- `line::setup::Setup::lengths_fit` meets its contract: each length in the order of the places. Assumes nothing.
 use mathlib.Core.Path.{sym, _∙_}
-use mathlib.Core.Path.{sym}
 use borrow.Author.Needs.{needs}
 use Rattle.line.proofs.Lengths.{store-wrong, table-wrong, normal-wrong, overlay-bad, output-short, lengths-right}
 use Rattle.line.proofs.setup.Setup.lengths_fit.Statement.{statement}
