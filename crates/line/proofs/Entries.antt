@@ -34,6 +34,7 @@ use Rattle.line.specs.Inner.{PassedAt, Served, RunTold, StartTold}
 use Rattle.line.specs.declared.controls.Controls.{Controls}
 use Rattle.line.specs.declared.runs.RunAt.the-variants.{Is}
 
+-- refusals under their own names
 renamed-same : {R A : Type 0} (outcome : Outcome R A) → renamed (λ (refusal : R). refusal) outcome ≡ outcome
 renamed-same (ok answer) = refl
 renamed-same (refused refusal) = refl
@@ -92,6 +93,7 @@ module _ (controls : Controls) (lent : Lent) (start x : ℕ) where
   entry-no-id none = run-refused (view lent) (idAt controls (length (lent .table)) start x) _ none
 
   module _ {id : ℕ} (found : run (view lent) (idAt controls (length (lent .table)) start x) ≡ ok id) where
+    -- the decoder decides
     by-decoded : {what : Decoded} → decoded (getD (lent .store) id 0) (controls .depth) ≡ what
         → run (view lent) (entryAt controls (length (lent .table)) start x) ≡ run (view lent) (definedAt x what)
     unfolding entryAt

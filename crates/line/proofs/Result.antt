@@ -16,6 +16,7 @@ use Rattle.line.specs.Drawn.{setupOf, said, after, drawn}
 use Rattle.line.specs.Inner.{Sized}
 use Rattle.line.specs.declared.setup.Setup.{Setup}
 
+-- either depth, by the switch
 either-depth : (on : Bool) → (_≡_ {A = ℕ} (cond on 32 16) 16) ⊎ (_≡_ {A = ℕ} (cond on 32 16) 32)
 either-depth true = inr refl
 either-depth false = inl refl

@@ -26,6 +26,7 @@ use Rattle.line.specs.Inner.{Drawable, colourBy, colourAt}
 use Rattle.line.specs.declared.setup.Setup.{Setup}
 use Rattle.line.proofs.Pass.{entryOf, has-entry, entries-run}
 
+-- of two switches that are not both on, the second is off where the first is on
 both : (first second : Bool) → first && second ≡ false → first ≡ true → second ≡ false
 both true second e on = e
 both false second e on = absurd (true≢false (sym on))
@@ -57,6 +58,7 @@ module _ (setup : Setup) (lent : Lent) where
   line-unfit unfit = run-refused (view lent) (checked (lineFaults setup)) _ (run-checked (view lent) (lineFaults setup) ∙ unfit)
 
   module _ (passes : verdict (lineFaults setup) ≡ ok tt) where
+    -- past them the passes decide
     by-entries : run (view lent) (lineRule setup) ≡ run (view lent) (entriesOf setup >>= coloursOf setup)
     unfolding lineRule
     by-entries = run-ok (view lent) (checked (lineFaults setup)) _ (run-checked (view lent) (lineFaults setup) ∙ passes)

@@ -13,7 +13,7 @@ pub record Lent : Type 0 where
   pub normal : List ℕ
   pub overlay : List ℕ
 
--- so put together
+-- the four of them as one
 abbrev pub lentOf : List ℕ → List ℕ → List ℕ → List ℕ → Lent
 lentOf store table normal overlay = record { store = store; table = table; normal = normal; overlay = overlay }
 

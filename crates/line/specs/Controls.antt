@@ -5,6 +5,7 @@ use mathlib.Core.List.{List}
 use lib.Dec.{eqb}
 use lib.ListN.{getD}
 use Rattle.words.specs.Field.{field}
+use Rattle.timing.specs.Move.{totalWidth, totalLines}
 use Rattle.pixels.specs.declared.Screen.{Screen}
 use Rattle.line.specs.declared.controls.Controls.{Controls}
 
@@ -25,8 +26,8 @@ controlsOf control =
       cursor = switch (getD control 0 0) 2;
       crosshair = switch (getD control 0 0) 3;
       depth = depthOf (getD control 0 0);
-      columns = field (getD control 1 0) 11 0 + 1;
-      lines = field (getD control 1 0) 27 16 + 1;
+      columns = totalWidth (getD control 1 0);
+      lines = totalLines (getD control 1 0);
       left = field (getD control 6 0) 11 0;
       top = field (getD control 6 0) 27 16;
       width = field (getD control 7 0) 10 0 + 1;

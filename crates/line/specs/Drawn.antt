@@ -35,7 +35,7 @@ abbrev pub told : Answer → Outcome Numbered (Unit {0})
 told Drawn = ok tt
 told (Refused refusal) = refused (numbered refusal)
 
--- whether a line is drawn
+-- that the line is drawn, or its refusal; the colours go to the output
 abbrev pub said : Outcome Numbered (List ℕ) → Outcome Numbered (Unit {0})
 said (ok colours) = ok tt
 said (refused refusal) = refused refusal

@@ -14,11 +14,11 @@ use Rattle.refusals.specs.Refusal.{numbered}
 use Rattle.colour.specs.declared.entry.Entry.{Entry}
 use Rattle.registers.specs.Store.{storeLength}
 use Rattle.windows.specs.Table.{tableView}
+use Rattle.windows.specs.Inner.{PassedIds}
 use Rattle.windows.specs.declared.frame.LineTable.{LineTable}
 use Rattle.windows.specs.declared.frame.LineTable.the-variants.{Starts, Refused as NoTable}
 use Rattle.windows.specs.declared.ids.LookedUp.{LookedUp}
 use Rattle.windows.specs.declared.ids.LookedUp.the-variants.{Id, Refused as NoId}
-use Rattle.windows.proofs.Pixels.{PassedIds}
 use Rattle.pixels.specs.Cells.{PixelCell, pixelView}
 use Rattle.pixels.specs.Colour.{SaidAt, colourOf}
 use Rattle.pixels.specs.declared.Screen.{Screen}

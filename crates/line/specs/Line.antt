@@ -26,7 +26,7 @@ use Rattle.line.specs.declared.setup.Setup.{Setup}
 
 -- ---- what a line is refused for before anything is read
 
--- origin + size is above the total, either way
+-- the picture is wider or higher than what the total leaves behind its origin
 unfoldable pub aboveTotal : Controls → Bool
 aboveTotal controls =
     ltb (controls .columns) (controls .left + controls .width)
@@ -36,11 +36,11 @@ aboveTotal controls =
 abbrev pub normalLength : Controls → ℕ
 normalLength controls = controls .width * (controls .depth / 8)
 
--- the table is looked at only where window IDs are on, and has at most 65,536 bytes
+-- the table, looked at only where window IDs are on, has more than 65,536 bytes
 unfoldable pub tableTooLong : Setup → Bool
 tableTooLong setup = setup .controls .ids && ltb 65536 (setup .lengths .table)
 
--- the overlay row is looked at only where overlay is on, and has a byte for each pixel
+-- the overlay row, looked at only where overlay is on, has another length than the active width
 unfoldable pub overlayWrong : Setup → Bool
 overlayWrong setup = setup .controls .overlay && not (eqb (setup .lengths .overlay) (setup .controls .width))
 
@@ -68,11 +68,11 @@ lineFaults setup =
 abbrev pub inTable : {A : Type 0} → Rule Numbered TableCell A → Rule Numbered Cell A
 inTable = within (λ refusal. refusal) ofTable
 
--- where the line's table starts; there is none where window IDs are off
+-- where the line's table starts; where window IDs are off 0, which nothing looks at
 unfoldable pub startOf : Controls → ℕ → ℕ → Rule Numbered Cell ℕ
 startOf controls tableBytes y = cond (controls .ids) (inTable (lineTableOf tableBytes y)) (done 0)
 
--- a pixel's ID; off, every ID is 0
+-- a pixel's ID; with window IDs off all pixels are window 0's
 unfoldable pub idAt : Controls → ℕ → ℕ → ℕ → Rule Numbered Cell ℕ
 idAt controls tableBytes start x = cond (controls .ids) (inTable (idOf tableBytes start x)) (done 0)
 
@@ -81,7 +81,7 @@ abbrev pub definedAt : ℕ → Decoded → Rule Numbered Cell Entry
 definedAt x (Defined entry) = done entry
 definedAt x Undefined = stop (numbered (UndefinedEntry x))
 
--- a pixel's window entry, whatever covers the pixel: 8 where it has no ID, else 9 where the entry of its ID is undefined
+-- a pixel's window entry, whatever covers the pixel: 8 where no line entry serves it, else 9 where its window entry is undefined
 unfoldable pub entryAt : Controls → ℕ → ℕ → ℕ → Rule Numbered Cell Entry
 entryAt controls tableBytes start x = do
   id ← idAt controls tableBytes start x

@@ -48,7 +48,7 @@ fn size(word: u32, high: u32, low: u32) -> u32
 
 impl Controls {
     // What nine control words say.
-    pub fn of(control: [u32; 9]) -> Self
+    pub(crate) fn of(control: [u32; 9]) -> Self
         ensures { λ r. ⌜ r ≡ controlsOf control ⌝ }
     {
         let switches = control[0];
@@ -74,7 +74,7 @@ impl Controls {
     }
 
     // What they say of every pixel of line y.
-    pub fn screen(self, y: u32) -> Screen
+    pub(crate) fn screen(self, y: u32) -> Screen
         ensures { λ r. ⌜ r ≡ screenOf self y ⌝ }
     {
         Screen {

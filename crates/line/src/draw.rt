@@ -44,22 +44,18 @@ impl Setup {
         ensures { λ r. ⌜ CheckedTold self (now (store .entry)) (now (table .entry)) r ⌝ }
     {
         let fit = self.fit();
+        if let Fit::Refused(refusal) = fit {
+            return LineTable::Refused(refusal);
+        }
         let controls = self.controls;
-        match fit {
+        let found = controls.start(table, self.y);
+        let LineTable::Starts(start) = found else {
+            return found;
+        };
+        let checked = controls.check_runs(store, table, start);
+        match checked {
+            Fit::Yes => LineTable::Starts(start),
             Fit::Refused(refusal) => LineTable::Refused(refusal),
-            Fit::Yes => {
-                let found = controls.start(table, self.y);
-                match found {
-                    LineTable::Refused(refusal) => LineTable::Refused(refusal),
-                    LineTable::Starts(start) => {
-                        let fit = controls.check(store, table, start);
-                        match fit {
-                            Fit::Refused(refusal) => LineTable::Refused(refusal),
-                            Fit::Yes => LineTable::Starts(start),
-                        }
-                    }
-                }
-            }
         }
     }
 }
@@ -97,7 +93,7 @@ pub fn draw(
         },
         LineTable::Starts(start) => {
             let controls = setup.controls;
-            controls.draw(y, store, table, start, normal, overlay, out);
+            controls.draw_runs(y, store, table, start, normal, overlay, out);
             Drawn {
                 state,
                 answer: Answer::Drawn,

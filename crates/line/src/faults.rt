@@ -14,7 +14,7 @@ pub enum Fit {
 }
 
 impl Controls {
-    // Whether origin + size is above the total, either way.
+    // Whether the picture is wider or higher than what the total leaves behind its origin.
     fn above_total(self) -> bool
         requires { ⌜ Sized self ⌝ }
         ensures { λ r. ⌜ r ≡ aboveTotal self ⌝ }
@@ -81,7 +81,7 @@ impl Setup {
     }
 
     // 11, 10, 6, 5, in this order.
-    pub fn fit(self) -> Fit
+    pub(crate) fn fit(self) -> Fit
         requires { ⌜ Sized (self .controls) ⌝ }
         ensures { λ r. ⌜ fitTold r ≡ verdict (lineFaults self) ⌝ }
     {

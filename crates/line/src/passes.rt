@@ -10,7 +10,7 @@ use crate::runs::RunAt;
 
 impl Controls {
     // The first pass: whether every pixel has a defined window entry.
-    pub fn check(self, store: &[u32], table: &[u8], start: usize) -> Fit
+    pub(crate) fn check_runs(self, store: &[u32], table: &[u8], start: usize) -> Fit
         requires { ⌜ length (now store) ≡ storeLength ⌝ }
         ensures { λ r. ⌜ EntriesTold self (now (store .entry)) (now (table .entry)) start r ⌝ }
     {
@@ -29,8 +29,8 @@ impl Controls {
         Fit::Yes
     }
 
-    // The second pass: each run into the part of the output that starts at its first pixel.
-    pub fn draw(
+    // The second pass: every run is lent the rest of the output, from where it begins.
+    pub(crate) fn draw_runs(
         self,
         y: u32,
         store: &[u32],
@@ -48,6 +48,7 @@ impl Controls {
         let mut from = 0;
         while x < self.width {
             let RunAt::Is(run) = self.run_at(store, table, start, from, x) else {
+                // Not taken: the first pass found a run at every pixel.
                 return;
             };
             let first = x as usize;

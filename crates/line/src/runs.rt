@@ -25,7 +25,7 @@ pub enum RunAt {
 }
 
 impl Controls {
-    // The ID of pixel x with the pixels that have it too; off, every ID is 0.
+    // The ID of pixel x with the pixels that have it too; with window IDs off all pixels are window 0's.
     fn id_at(self, table: &[u8], start: usize, from: usize, x: u32) -> LookedUp
         requires { ⌜ PassedAt self (now table) start from x × (x < self .width) ⌝ }
         ensures { λ r. ⌜ Served self (now (table .entry)) start x r ⌝ }
@@ -35,18 +35,19 @@ impl Controls {
         }
         LookedUp::Id(Found {
             id: 0,
-            last: self.width,
+            last: self.width - 1,
             next: 0,
         })
     }
 
     // The run that starts at pixel x.
-    pub fn run_at(self, store: &[u32], table: &[u8], start: usize, from: usize, x: u32) -> RunAt
+    pub(crate) fn run_at(self, store: &[u32], table: &[u8], start: usize, from: usize, x: u32) -> RunAt
         requires { ⌜ PassedAt self (now table) start from x × (x < self .width) × (length (now store) ≡ storeLength) ⌝ }
         ensures { λ r. ⌜ RunTold self (now (store .entry)) (now (table .entry)) start x r ⌝ }
     {
         let looked = self.id_at(table, start, from, x);
         let LookedUp::Id(found) = looked else {
+            // The answer holds the refusal, so it is taken apart again. It is no ID here.
             return match looked {
                 LookedUp::Id(_) => RunAt::Refused(Refusal::NoLineEntry(x)),
                 LookedUp::Refused(refusal) => RunAt::Refused(refusal),

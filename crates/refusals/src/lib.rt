@@ -2,7 +2,8 @@
 ghost use mathlib.Core.Path.{_≡_};
 ghost use Rattle.refusals.specs.Refusal.{numberOf, placeOf};
 
-// Why a call is refused. The first four hold the address, 24 bits of it; 6 and 7 the line, 8 and 9 the pixel.
+// Why a call is refused. NoRegister to QueueFull hold the address, 24 bits of it; BelowActive and NoFrameEntry the line; NoLineEntry and
+// UndefinedEntry the pixel.
 pub enum Refusal {
     NoRegister(u32),
     ReadOnly(u32),

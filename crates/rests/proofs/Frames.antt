@@ -41,7 +41,7 @@ module _ (setup : Setup) (lent : Lent) where
   -- ---- window IDs on or off
 
   -- on, the line table is looked up
-  start-on : setup .controls .ids ≡ true → starting ≡ inTable (lineTableOf (setup .lengths .table) (setup .y))
+  pub start-on : setup .controls .ids ≡ true → starting ≡ inTable (lineTableOf (setup .lengths .table) (setup .y))
   unfolding startOf
   start-on on = rw on refl
 

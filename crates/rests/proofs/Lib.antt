@@ -15,3 +15,5 @@ pub mod ByList
 pub mod Outputs
 pub mod Active
 pub mod Hidden
+pub mod Reasons
+pub mod Answers

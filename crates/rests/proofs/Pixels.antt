@@ -38,7 +38,7 @@ module _ (setup : Setup) (lent : Lent) (start : ℕ) where
 
   module _ (on : setup .controls .ids ≡ true) (x : ℕ) where
     -- what comes of the pixel's ID
-    id-run : run (view lent) (identifying setup lent start x) ≡ run (tableView (lent .table)) (idOf (setup .lengths .table) start x)
+    pub id-run : run (view lent) (identifying setup lent start x) ≡ run (tableView (lent .table)) (idOf (setup .lengths .table) start x)
     id-run = rw (id-on setup lent on start x) (table-run setup lent (idOf (setup .lengths .table) start x))
 
     -- what is read for it is read of the table

@@ -3,3 +3,4 @@ pub mod TableList
 pub mod ColourList
 pub mod Listed
 pub mod Hidden
+pub mod Reasons

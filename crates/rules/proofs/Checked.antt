@@ -15,11 +15,13 @@ use Rattle.rules.proofs.Faults.{none-holds, first-holds, refused-first,
 abbrev answer : List Fault → Outcome Numbered (Unit {0})
 answer faults = unless {Memory = Unit {0}} faults tt (tt, tt) .1
 
+-- one fault more decides by its test
 answered-by : (test : Bool) (refusal : Numbered) (faults : List Fault)
     → cond test (refused refusal) (answer faults) ≡ answer (record { holds = test; refusal = refusal } ∷ faults)
 answered-by true refusal faults = refl
 answered-by false refusal faults = refl
 
+-- the verdict is that answer
 answered : (faults : List Fault) → verdict faults ≡ answer faults
 answered [] = refl
 answered (fault ∷ faults) =
@@ -51,6 +53,7 @@ module _ {Q : Type 0} (memory : Q → ℕ) where
       run-cond memory (fault .holds) (stop (fault .refusal)) (checked faults)
       ∙ ap (λ (rest : Outcome Numbered (Unit {0})). cond (fault .holds) (refused (fault .refusal)) rest) (run-checked faults)
 
+  -- by a test, none or none
   none-read : (test : Bool) {cells : List Q} → cells ≡ [] → cond test [] cells ≡ []
   none-read true e = refl
   none-read false e = e

@@ -1,15 +1,13 @@
--- A pass over positions that stops at the first refusal: the laws of a loop that makes it, and what it reads. Assumes nothing.
+-- A pass over positions that stops at the first refusal: what comes of it, and what it reads. Assumes nothing.
 use Prim.Native.Nat.{ℕ, zero, suc, _+_, _≤_, _<_}
 use mathlib.Core.Path.{_≡_, refl, sym, ap, _∙_}
-use mathlib.Core.Logic.{_⊎_, ⊎-elim}
+use mathlib.Core.Logic.{⊎-elim}
 use mathlib.Core.List.{List, [], _∷_, _++_, append-nil}
 use native.Mathlib.Omega.{arith}
-use native.Mathlib.Nat.{add-zero, zero-add, add-suc, suc-add, not-suc-le-zero, eq-or-lt-of-le}
-use borrow.Author.Count.{below-none, below-more}
+use native.Mathlib.Nat.{add-zero, add-suc, suc-add, not-suc-le-zero, eq-or-lt-of-le}
 use Rattle.rules.specs.Rule.{Rule, done, Outcome, ok, refused, run, reads, _>>=_, andThenReads}
 use Rattle.rules.specs.Lists.{values, joined}
 use Rattle.rules.specs.Each.{each, eachOf}
-use Rattle.rules.proofs.Cases.{le-or-lt}
 use Rattle.rules.proofs.Then.{run-ok, run-refused, reads-then, reads-ok, reads-refused}
 
 module _ {R Q A : Type 0} (memory : Q → ℕ) (rule : ℕ → Rule R Q A) (value : ℕ → A) where
@@ -46,38 +44,6 @@ module _ {R Q A : Type 0} (memory : Q → ℕ) (rule : ℕ → Rule R Q A) (valu
       run-ok memory (rule from) _ (here d from answers)
       ∙ run-refused memory (each rule count (suc from)) _
       (each-stop d count (suc from) (omega arith) (later d from answers) (stops-later d from stops))
-
-  -- a loop that makes the pass is at `at` of `count`, and every position before it answered
-  pub record Passing (count at : ℕ) : Type 0 where
-    pub in-range : at ≤ count
-    pub answered : (i : ℕ) → i < at → run memory (rule i) ≡ ok (value i)
-
-  -- before the first position
-  pub pass-start : (count : ℕ) → Passing count 0
-  pass-start count = record { in-range = omega arith; answered = below-none _ }
-
-  answers-before : {count at : ℕ} → Passing count at → Answers at 0
-  answers-before pass = λ i low high. pass .answered i (omega arith)
-
-  module _ {count at : ℕ} (pass : Passing count at) where
-    -- one position on
-    pub pass-next : at < count → run memory (rule at) ≡ ok (value at) → Passing count (at + 1)
-    pass-next more e = record { in-range = omega arith; answered = below-more _ _ (pass .answered) e }
-
-    -- a run of positions on
-    pub pass-run : (length : ℕ) → at + length ≤ count → Answers length at → Passing count (at + length)
-    pass-run length fits answers = record { in-range = fits; answered = λ i h. in-either i h (le-or-lt at i) }
-      where
-        in-either : (i : ℕ) → i < at + length → (at ≤ i) ⊎ (i < at) → run memory (rule i) ≡ ok (value i)
-        in-either i h side = ⊎-elim (λ low. answers i low h) (λ before. pass .answered i before) side
-
-    -- a position that refuses decides
-    pub pass-found : {refusal : R} → at < count → run memory (rule at) ≡ refused refusal → run memory (each rule count 0) ≡ refused refusal
-    pass-found more e = each-stop at count 0 more (answers-before pass) (rw zero-add e)
-
-    -- after the last position
-    pub pass-over : count ≤ at → run memory (each rule count 0) ≡ ok (values value count 0)
-    pass-over all = each-ok count 0 (λ i low high. pass .answered i (omega arith))
 
 module _ {R Q A : Type 0} (memory : Q → ℕ) (rule : ℕ → Rule R Q A) where
   -- the positions from `from` on, `count` of them, all answer

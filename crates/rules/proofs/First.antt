@@ -1,14 +1,13 @@
--- The search for the first cell that passes: the laws of a loop that makes it, and what its outcome tells of the cells. Assumes nothing.
+-- The search for the first cell that passes: what its outcome tells of the cells. Assumes nothing.
 use Prim.Native.Nat.{ℕ, zero, suc, _+_, _-_, _≤_, _<_}
 use mathlib.Core.Path.{_≡_, refl, sym, ap, _∙_}
 use mathlib.Core.Bool.{Bool, true, false, cond}
 use mathlib.Core.List.{List, [], _∷_}
 use mathlib.Core.Logic.{⊎-elim}
 use native.Mathlib.Omega.{arith}
-use native.Mathlib.Nat.{sub-zero, sub-self, eq-or-lt-of-le}
-use native.Mathlib.Numerals.{add-one}
+use native.Mathlib.Nat.{sub-self, eq-or-lt-of-le}
 use Rattle.rules.specs.Rule.{done, ok, refused, run, reads}
-use Rattle.rules.specs.First.{firstFrom, first}
+use Rattle.rules.specs.First.{firstFrom}
 use Rattle.rules.specs.Lists.{values}
 use Rattle.rules.proofs.Cases.{impossible}
 use Rattle.rules.proofs.Then.{run-cond, reads-cond}
@@ -18,44 +17,6 @@ module _ {R Q : Type 0} (missing : R) (cell : ℕ → Q) (passes : ℕ → Bool)
       → run memory (firstFrom missing cell passes (suc count) from)
       ≡ cond (passes (memory (cell from))) (ok from) (run memory (firstFrom missing cell passes count (suc from)))
   step count from = run-cond memory (passes (memory (cell from))) (done from) (firstFrom missing cell passes count (suc from))
-
-  one-more : (count at : ℕ) → at < count → count - at ≡ suc (count - (at + 1))
-  one-more count at h = omega arith
-
-  none-left : (count at : ℕ) → count ≤ at → count - at ≡ 0
-  none-left count at h = omega arith
-
-  -- a loop that goes through the cells is at `at` of `count`, and none before `at` passed
-  pub record Seeking (count at : ℕ) : Type 0 where
-    pub in-range : at ≤ count
-    pub rest : run memory (firstFrom missing cell passes (count - at) at) ≡ run memory (first missing cell passes count)
-
-  -- before the first cell
-  pub seek-start : (count : ℕ) → Seeking count 0
-  seek-start count = record { in-range = omega arith; rest = rw sub-zero }
-
-  -- `held` is what the cell at `at` holds
-  module _ {count at held : ℕ} (here : Seeking count at) (more : at < count) (e : held ≡ memory (cell at)) where
-    -- a cell that does not pass: one on
-    pub seek-next : passes held ≡ false → Seeking count (at + 1)
-    seek-next test = record {
-      in-range = omega arith;
-      rest = rw (add-one at) (rw (one-more count at more, step (count - (at + 1)) at, ← e, test, add-one at) at (here .rest));
-    }
-
-    -- a cell that passes is the one found
-    pub seek-found : passes held ≡ true → run memory (first missing cell passes count) ≡ ok at
-    seek-found test = sym (rw (one-more count at more, step (count - (at + 1)) at, ← e, test) at (here .rest))
-
-  -- a loop may start further on, where none before passes
-  pub seek-from : (count at : ℕ) → at ≤ count → ((i : ℕ) → i < at → passes (memory (cell i)) ≡ false) → Seeking count at
-  seek-from count zero fits failed = seek-start count
-  seek-from count (suc at) fits failed =
-      rw (add-one at) at (seek-next (seek-from count at (omega arith) (λ i h. failed i (omega arith))) (omega arith) refl (failed at (omega arith)))
-
-  -- after the last cell
-  pub seek-over : {count at : ℕ} → Seeking count at → count ≤ at → run memory (first missing cell passes count) ≡ refused missing
-  seek-over {count} {at} here all = sym (rw (none-left count at all) at (here .rest))
 
   -- what it tells that the search from `from` on answers `at`
   pub record Found (count from at : ℕ) : Type 0 where

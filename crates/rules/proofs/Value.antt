@@ -1,6 +1,5 @@
 -- Rules without refusals: their values, put together as the rules are. Assumes nothing.
 use Prim.Native.Nat.{ℕ}
-use mathlib.Core.Bool.{Bool, true, false, cond}
 use mathlib.Core.Path.{_≡_, refl}
 use Rattle.rules.specs.Rule.{Rule, done, stop, ask, ok, run, _>>=_, within, value}
 use Rattle.rules.specs.Asks.{NeverRefuses}
@@ -13,12 +12,6 @@ module _ {Q A B : Type 0} (memory : Q → ℕ) where
   value-then (ask cell next) after = value-then (next (memory cell)) after
 
 module _ {Q A : Type 0} (memory : Q → ℕ) where
-  -- the value of a rule by a test
-  pub value-cond : (test : Bool) (yes-rule no-rule : Rule ⊥ Q A)
-      → value memory (cond test yes-rule no-rule) ≡ cond test (value memory yes-rule) (value memory no-rule)
-  value-cond true yes-rule no-rule = refl
-  value-cond false yes-rule no-rule = refl
-
   -- the outcome is the value
   pub run-value : (rule : Rule ⊥ Q A) → run memory rule ≡ ok (value memory rule)
   run-value (done answer) = refl

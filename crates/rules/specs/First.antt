@@ -8,7 +8,3 @@ module _ {R Q : Type 0} (missing : R) (cell : ℕ → Q) (passes : ℕ → Bool)
   abbrev pub firstFrom : ℕ → ℕ → Rule R Q ℕ
   firstFrom zero from = stop missing
   firstFrom (suc count) from = ask (cell from) (λ held. let rest = firstFrom count (suc from) in cond (passes held) (done from) rest)
-
-  -- the same from cell 0 on
-  abbrev pub first : ℕ → Rule R Q ℕ
-  first count = firstFrom count 0

@@ -14,7 +14,8 @@ use Rattle.windows.specs.Table.{TableCell, yend, lineTable, xend, window
 use Rattle.windows.specs.Search.{entryAt}
 use Rattle.windows.specs.Frame.{frameEntries, frameOf, lineTableOf}
 use Rattle.windows.specs.Ids.{lineEntries, entryByte, lineEntryFrom, idOf}
-use Rattle.windows.proofs.Search.{Reached, Short, found-tells, found-reads, missing-tells, missing-named, missing-reads}
+use Rattle.windows.specs.Inner.{Short}
+use Rattle.windows.proofs.Search.{Reached, found-tells, found-reads, missing-tells, missing-named, missing-reads}
 
 -- ---- a search, and then a rule that always answers
 

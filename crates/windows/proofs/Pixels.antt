@@ -9,13 +9,10 @@ use Rattle.refusals.specs.declared.Refusal.the-variants.{NoLineEntry}
 use Rattle.windows.specs.Table.{TableCell}
 use Rattle.windows.specs.Ids.{lineEntries, lineEntryFrom, idOf}
 use Rattle.windows.specs.Carried.{foundFrom}
+use Rattle.windows.specs.Inner.{PassedIds}
 use Rattle.windows.specs.declared.ids.Found.{Found}
-use Rattle.windows.proofs.Search.{Reached, Passed, short-none, found-tells, finds, missing-whole, reached-stays, reached-whole, reached-passed}
+use Rattle.windows.proofs.Search.{Reached, short-none, found-tells, finds, missing-whole, reached-stays, reached-whole, reached-passed}
 use Rattle.windows.proofs.Answers.{endOf, idCell, answer-from, refusal-from, id-of-entry, id-of-none}
-
--- the entries before entry `from` of the line table at `start` serve no pixel from x on
-pub record PassedIds (memory : TableCell → ℕ) (start from x : ℕ) : Type 0 where
-  pub passed : Passed memory (endOf start) from x
 
 -- before entry 0 there are none
 pub passed-start : (memory : TableCell → ℕ) (start x : ℕ) → PassedIds memory start 0 x

@@ -10,27 +10,24 @@ use Rattle.rules.specs.Lists.{values}
 use Rattle.rules.proofs.Cases.{le-or-lt}
 use Rattle.rules.proofs.First.{found-from, missing-from}
 use Rattle.windows.specs.Search.{entryFrom}
+use Rattle.windows.specs.Inner.{Short}
 
 module _ {Q : Type 0} (memory : Q → ℕ) (end : ℕ → Q) where
-  -- each entry from `first` on and before `last` ends below `position`
-  pub record Short (first last position : ℕ) : Type 0 where
-    pub each : (i : ℕ) → first ≤ i → i < last → memory (end i) < position
-
   -- of `count` entries `entry` is the first, from `from` on, whose end is at least `position`
   pub record Reached (count from position entry : ℕ) : Type 0 where
     pub after : from ≤ entry
     pub below : entry < count
     pub reaches : position ≤ memory (end entry)
-    pub short : Short from entry position
+    pub short : Short memory end from entry position
 
   -- a loop that searches from entry `from` on is at entry `at`: it passed all before
   pub record Searching (from position at : ℕ) : Type 0 where
     pub after : from ≤ at
-    pub short : Short from at position
+    pub short : Short memory end from at position
 
   -- a search at `position` may start at entry `from`: the whole one passes all before
   abbrev pub Passed : ℕ → ℕ → Type 0
-  Passed from position = Short 0 from position
+  Passed from position = Short memory end 0 from position
 
 -- ---- ends below a position
 
@@ -146,12 +143,7 @@ module _ {R Q : Type 0} (memory : Q → ℕ) (missing : R) (end : ℕ → Q) (co
       by (refused refusal) e = ap refused (missing-named e)
 
 module _ {R Q : Type 0} (memory : Q → ℕ) (missing : R) (end : ℕ → Q) (count : ℕ) {from position : ℕ} (passed : Passed memory end from position) where
-  -- where a search may start at `from`, what it finds is what the whole one finds
-  pub found-whole : {entry : ℕ} → run memory (entryFrom missing end count from position) ≡ ok entry
-      → run memory (entryFrom missing end count 0 position) ≡ ok entry
-  found-whole e = finds memory missing end count 0 position (reached-whole passed (found-tells memory missing end count from position e))
-
-  -- and it refuses as the whole one does
+  -- where a search may start at `from`, it refuses as the whole one does
   pub missing-whole : {refusal : R} → run memory (entryFrom missing end count from position) ≡ refused refusal
       → run memory (entryFrom missing end count 0 position) ≡ refused refusal
   missing-whole e =

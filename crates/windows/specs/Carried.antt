@@ -1,4 +1,4 @@
--- The look-up carried on from an entry: what the next entry found serves.
+-- The look-up as a line makes it: it may go on from an entry, and says how far its answer holds.
 use Prim.Native.Nat.{ℕ, _+_, _<_}
 use Rattle.rules.specs.Rule.{Rule, done, get, _>>=_, Outcome, ok, refused}
 use Rattle.rules.specs.Faults.{Numbered}

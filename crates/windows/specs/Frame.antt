@@ -9,11 +9,11 @@ use Rattle.windows.specs.Search.{entryAt}
 use Rattle.windows.specs.declared.frame.LineTable.{LineTable}
 use Rattle.windows.specs.declared.frame.LineTable.the-variants.{Starts, Refused}
 
--- at most 2,048 frame entries, whole ones only
+-- how many frame entries a table of so many bytes has: whole ones, and 2,048 at most
 abbrev pub frameEntries : ℕ → ℕ
 frameEntries length = min 2048 (length / 4)
 
--- line y uses the first entry with yend ≥ y; where there is none, 7
+-- of the frame entries the first that ends at line y or later; none is 7
 abbrev pub frameOf : ℕ → ℕ → Rule Numbered TableCell ℕ
 frameOf length y = entryAt (numbered (NoFrameEntry y)) yend (frameEntries length) y
 

@@ -7,11 +7,11 @@ use Rattle.refusals.specs.declared.Refusal.the-variants.{NoLineEntry}
 use Rattle.windows.specs.Table.{TableCell, xend, windowId}
 use Rattle.windows.specs.Search.{entryFrom}
 
--- where the line table that starts at a byte ends: with its 512-byte block or with the table
+-- the byte behind the line table that starts at a byte: the 512-byte block that it starts in is over, or the table is
 abbrev pub lineTableEnd : ℕ → ℕ → ℕ
 lineTableEnd length start = min (512 * (start / 512) + 512) length
 
--- its entries, whole ones only
+-- how many whole entries it has
 abbrev pub lineEntries : ℕ → ℕ → ℕ
 lineEntries length start = (lineTableEnd length start - start) / 2
 
@@ -19,11 +19,11 @@ lineEntries length start = (lineTableEnd length start - start) / 2
 abbrev pub entryByte : ℕ → ℕ → ℕ
 entryByte start entry = start + 2 * entry
 
--- pixel x has the first entry with xend ≥ x; where there is none, 8. The search may go on from an entry
+-- of the line entries, from one on, the first that ends at pixel x or later; none is 8
 abbrev pub lineEntryFrom : ℕ → ℕ → ℕ → ℕ → Rule Numbered TableCell ℕ
 lineEntryFrom length start from x = entryFrom (numbered (NoLineEntry x)) (λ entry. xend (entryByte start entry)) (lineEntries length start) from x
 
--- its ID
+-- the ID of pixel x: that of the first of all
 unfoldable pub idOf : ℕ → ℕ → ℕ → Rule Numbered TableCell ℕ
 idOf length start x = do
   entry ← lineEntryFrom length start 0 x

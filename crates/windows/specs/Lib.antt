@@ -3,3 +3,4 @@ pub mod Search
 pub mod Frame
 pub mod Ids
 pub mod Carried
+pub mod Inner

@@ -9,11 +9,11 @@ pub data TableCell : Type 0 where
   yend lineTable : ℕ → TableCell
   xend windowId : ℕ → TableCell
 
--- frame entries are 32 bits, from byte 0
+-- a frame entry has 32 bits; the one numbered 0 stands at byte 0
 abbrev pub frameEntry : List ℕ → ℕ → ℕ
 frameEntry table number = bigEndian table (4 * number) 4
 
--- line entries are 16 bits
+-- a line entry has 16 bits
 abbrev pub lineEntry : List ℕ → ℕ → ℕ
 lineEntry table byte = bigEndian table byte 2
 

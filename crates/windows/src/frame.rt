@@ -14,18 +14,18 @@ pub enum LineTable {
 }
 
 // How many whole frame entries a table of so many bytes has.
-fn entries(length: usize) -> usize
+fn frame_entries(length: usize) -> usize
     ensures { λ r. ⌜ r ≡ frameEntries length ⌝ }
 {
     let whole = length / 4;
     if whole < 2048 { whole } else { 2048 }
 }
 
-// Where the line table of line y starts: the first frame entry with yend ≥ y says.
+// Where the line table of line y starts: the first frame entry that ends there or later says.
 pub fn line_table(table: &[u8], y: u32) -> LineTable
     ensures { λ r. ⌜ (told r ≡ run (tableView (now (table .entry))) (lineTableOf (length (now (table .entry))) y)) × startBelow r ⌝ }
 {
-    let count = entries(table.len());
+    let count = frame_entries(table.len());
     let mut entry = 0;
     while entry < count {
         let word = words::be32(table, 4 * entry);

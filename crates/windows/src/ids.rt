@@ -22,7 +22,7 @@ pub enum LookedUp {
 }
 
 // How many whole line entries there are from byte `start` on, in a table of so many bytes: to the end of the block or of the table.
-fn entries(length: usize, start: usize) -> usize
+fn line_entries(length: usize, start: usize) -> usize
     ensures { λ r. ⌜ r ≡ lineEntries length start ⌝ }
 {
     if length <= start {
@@ -37,11 +37,11 @@ fn entries(length: usize, start: usize) -> usize
     }
 }
 
-// The ID of pixel x in the line table at byte `start`: the first line entry, from entry `from` on, with xend ≥ x says.
+// The ID of pixel x in the line table at byte `start`: the first line entry, from entry `from` on, that ends there or later says.
 pub fn look_up(table: &[u8], start: usize, from: usize, x: u32) -> LookedUp
     ensures { λ r. ⌜ (told r ≡ run (tableView (now (table .entry))) (foundFrom (length (now (table .entry))) start from x)) × idBelow r ⌝ }
 {
-    let count = entries(table.len(), start);
+    let count = line_entries(table.len(), start);
     let mut entry = from;
     while entry < count {
         let word = words::be16(table, start + 2 * entry);

@@ -16,14 +16,14 @@ use Rattle.line.proofs.Result.{controls-sized, drawn-by}
 use Rattle.line.proofs.Whole.{fitted, line-drawn}
 use Rattle.line.proofs.draw.draw.Statement.{statement}
 use Rattle.line.proofs.draw.draw.Tie as tie
-use Rattle.line.proofs.controls.Controls.draw.Reads as draw-reads
+use Rattle.line.proofs.controls.Controls.draw_runs.Reads as draw-runs-reads
 use Rattle.line.proofs.controls.Controls.of.Reads as of-reads
 use Rattle.line.proofs.draw.draw.Reads as reads
 use Rattle.line.proofs.setup.Setup.checked.Reads as checked-reads
 use Rattle.line.proofs.draw.draw.Lts as lts
 
 -- what the line goes by, as the code puts it together
-abbrev setup-at : lts.After-of (good-reads.Asked, good-reads.Learnt, of-reads.Asked, of-reads.Learnt, checked-reads.Asked, checked-reads.Learnt, draw-reads.Asked, draw-reads.Learnt) reads.Pre reads.Post → Setup
+abbrev setup-at : lts.After-of (good-reads.Asked, good-reads.Learnt, of-reads.Asked, of-reads.Learnt, checked-reads.Asked, checked-reads.Learnt, draw-runs-reads.Asked, draw-runs-reads.Learnt) reads.Pre reads.Post → Setup
 setup-at c =
     let given = c .before .before .before .before .before .before .before .before .args in
     record {
@@ -41,7 +41,7 @@ setup-at c =
 
 -- it is what the definition says
 setup-is :
-    (c : lts.After-of (good-reads.Asked, good-reads.Learnt, of-reads.Asked, of-reads.Learnt, checked-reads.Asked, checked-reads.Learnt, draw-reads.Asked, draw-reads.Learnt) reads.Pre reads.Post) →
+    (c : lts.After-of (good-reads.Asked, good-reads.Learnt, of-reads.Asked, of-reads.Learnt, checked-reads.Asked, checked-reads.Learnt, draw-runs-reads.Asked, draw-runs-reads.Learnt) reads.Pre reads.Post) →
     let given = c .before .before .before .before .before .before .before .before .args in
     setup-at c ≡ setupOf (given .state) (given .y) (lentOf (now (given .store)) (now (given .table)) (now (given .normal)) (now (given .overlay))) (length (now (given .out)))
 unfolding setupOf
@@ -49,7 +49,7 @@ setup-is c = rw (c .before .good2 .ensures, c .of .ensures) refl
 
 -- what the checks answered, where the line may be drawn
 drawable :
-    (c : lts.After-known-told2 (good-reads.Asked, good-reads.Learnt, of-reads.Asked, of-reads.Learnt, checked-reads.Asked, checked-reads.Learnt, draw-reads.Asked, draw-reads.Learnt) reads.Pre reads.Post) →
+    (c : lts.After-known-told2 (good-reads.Asked, good-reads.Learnt, of-reads.Asked, of-reads.Learnt, checked-reads.Asked, checked-reads.Learnt, draw-runs-reads.Asked, draw-runs-reads.Learnt) reads.Pre reads.Post) →
     let made = c .before .before .before .before in
     let given = made .before .before .before .before .before .before .before .before .args in
     Drawable (setup-at made) (now (given .store)) (now (given .table)) (c .before .checked3 .given .0 .0)
@@ -74,8 +74,8 @@ enum-known-checked c = search needs
 enum-known-checked-2 : tie.Need-enum-known-checked-2
 enum-known-checked-2 c = search needs
 
-draw-requires : tie.Need-draw-requires
-draw-requires c κs =
+draw-runs-requires : tie.Need-draw-runs-requires
+draw-runs-requires c κs =
     let ready = drawable (c .before .before) in
     let right = fitted _ (ready .fit) in (
       subst Sized (sym (c .before .before .before .before .before .before .of .ensures)) (controls-sized _),
@@ -100,7 +100,7 @@ returns-2 c =
     let made = told .before .before .before .before in
     let given = made .before .before .before .before .before .before .before .before .args in
     let lent = lentOf (now (given .store)) (now (given .table)) (now (given .normal)) (now (given .overlay)) in
-    ap (λ (output : List ℕ). ((given .state, output), ok tt)) (c .before .before .draw .ensures)
+    ap (λ (output : List ℕ). ((given .state, output), ok tt)) (c .before .before .draw-runs .ensures)
     ∙ drawn-by (given .state) (given .y) lent (now (given .out)) (setup-at made) (setup-is made)
     (line-drawn (setup-at made) (now (given .store)) (now (given .table)) (now (given .normal)) (now (given .overlay)) (told .before .checked3 .given .0 .0) refl (drawable told))
 
@@ -113,7 +113,7 @@ draw-spec =
     checked-requires
     enum-known-checked
     enum-known-checked-2
-    draw-requires
+    draw-runs-requires
     returns
     same-length
     returns-2)

@@ -45,8 +45,8 @@ start-read : (c : tie.After-field3 Inv-loop μ-loop)
     512 * c .before .field2 .result + 2 * c .field3 .result ≡ tableView (table-at l) (lineTable (entry-at l))
 start-read c = rw (c .before .field2 .ensures .0, c .field3 .ensures .0, c .before .before .before .before .be32 .ensures .0)
 
-entries-requires : tie.Need-entries-requires Inv-loop μ-loop
-entries-requires c κs = search needs
+frame-entries-requires : tie.Need-frame-entries-requires Inv-loop μ-loop
+frame-entries-requires c κs = search needs
 
 loop-holds : tie.Need-loop-holds Inv-loop μ-loop
 loop-holds c = search-start _ _
@@ -109,7 +109,7 @@ line-table-spec =
     (tie.spec
     Inv-loop
     μ-loop
-    entries-requires
+    frame-entries-requires
     loop-holds
     mul-be32
     be32-requires

@@ -60,8 +60,8 @@ served-read : (c : tie.After-field2 Inv-loop μ-loop)
     record { id = c .field2 .result; last = f .field .result; next = entry-at l + 1 } ≡ servedBy (tableView (table-at l)) (start-at l) (entry-at l)
 served-read c = rw (id-read c, end-read (c .before .before))
 
-entries-requires : tie.Need-entries-requires Inv-loop μ-loop
-entries-requires c κs = search needs
+line-entries-requires : tie.Need-line-entries-requires Inv-loop μ-loop
+line-entries-requires c κs = search needs
 
 loop-holds : tie.Need-loop-holds Inv-loop μ-loop
 loop-holds c = search-start _ _
@@ -112,7 +112,7 @@ look-up-spec =
     (tie.spec
     Inv-loop
     μ-loop
-    entries-requires
+    line-entries-requires
     loop-holds
     mul-be16
     add-be16

@@ -19,15 +19,19 @@ returns c =
     let given = start .args in
     served-on (given .self) (now (given .table)) (given .start) (given .from) (given .x) (c .look-up .result) (c .before .if1 .taken) (start .pre .0) (c .look-up .ensures .0) (c .look-up .ensures .1)
 
+sub-t7 : tie.Need-sub-t7
+sub-t7 c = omega (arith, c .before .before .before .pre .1)
+
 returns-2 : tie.Need-returns-2
 returns-2 c =
-    let given = c .before .before .args in
-    let off = c .if1 .left in (
+    let start = c .before .before .before in
+    let given = start .args in
+    let off = c .before .if1 .left in (
       omega arith,
-      omega (arith, c .before .before .pre .1),
+      omega (arith, start .pre .1),
       λ on. absurd (false≢true (sym off ∙ on)),
       λ store normal overlay p low high. id-off (given .self) (lentOf store (now (given .table)) normal overlay) (length (now (given .table))) (given .start) p off,
     )
 
 pub id-at-spec : {M : Type 1} → statement M
-id-at-spec = tie.close (tie.spec look-up-requires returns returns-2)
+id-at-spec = tie.close (tie.spec look-up-requires returns sub-t7 returns-2)

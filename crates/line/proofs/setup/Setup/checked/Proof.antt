@@ -7,13 +7,13 @@ use Rattle.rules.specs.Rule.{ok}
 use Rattle.windows.specs.declared.frame.LineTable.the-variants.{Starts}
 use Rattle.windows.specs.declared.frame.LineTable.{LineTable}
 use Rattle.line.specs.Cells.{lentOf}
-use Rattle.line.specs.Inner.{fitTold, StartTold, EntriesTold}
+use Rattle.line.specs.Inner.{fitTold, StartTold, EntriesTold, CheckedTold}
 use Rattle.line.specs.Line.{lineFaults}
 use Rattle.line.specs.declared.faults.Fit.{Fit}
 use Rattle.line.proofs.Whole.{fitted, line-unfit, line-no-table, line-no-entry}
 use Rattle.line.proofs.setup.Setup.checked.Statement.{statement}
 use Rattle.line.proofs.setup.Setup.checked.Tie as tie
-use Rattle.line.proofs.controls.Controls.check.Reads as check-reads
+use Rattle.line.proofs.controls.Controls.check_runs.Reads as check-runs-reads
 use Rattle.line.proofs.controls.Controls.start.Reads as start-reads
 use Rattle.line.proofs.setup.Setup.checked.Reads as reads
 use Rattle.line.proofs.setup.Setup.fit.Reads as fit-reads
@@ -21,18 +21,18 @@ use Rattle.line.proofs.setup.Setup.checked.Lts as lts
 
 -- the first checks passed
 passes :
-    (c : lts.After-enum-told (fit-reads.Asked, fit-reads.Learnt, start-reads.Asked, start-reads.Learnt, check-reads.Asked, check-reads.Learnt) reads.Pre reads.Post) →
-    verdict (lineFaults (c .before .before .before .before .before .before .args .self)) ≡ ok tt
-passes c = sym (c .before .before .before .fit .ensures) ∙ ap fitTold (c .enum-told .given .1)
+    (c : lts.After-enum-told (fit-reads.Asked, fit-reads.Learnt, start-reads.Asked, start-reads.Learnt, check-runs-reads.Asked, check-runs-reads.Learnt) reads.Pre reads.Post) →
+    verdict (lineFaults (c .before .before .before .before .before .args .self)) ≡ ok tt
+passes c = sym (c .before .before .fit .ensures) ∙ ap fitTold (c .enum-told .given .1)
 
 -- where the line table starts
 starts :
-    (c : lts.After-known-told3 (fit-reads.Asked, fit-reads.Learnt, start-reads.Asked, start-reads.Learnt, check-reads.Asked, check-reads.Learnt) reads.Pre reads.Post) →
+    (c : lts.After-known-told2 (fit-reads.Asked, fit-reads.Learnt, start-reads.Asked, start-reads.Learnt, check-runs-reads.Asked, check-runs-reads.Learnt) reads.Pre reads.Post) →
     let given = c .before .before .before .before .before .before .before .before .before .before .args in
-    StartTold (given .self .controls) (now (given .table)) (given .self .y) (Starts (c .before .found2 .given .0 .0))
+    StartTold (given .self .controls) (now (given .table)) (given .self .y) (Starts (c .before .found .given .0 .0))
 starts c =
     let given = c .before .before .before .before .before .before .before .before .before .before .args in
-    subst (λ (answer : LineTable). StartTold (given .self .controls) (now (given .table)) (given .self .y) answer) (c .before .found2 .given .1)
+    subst (λ (answer : LineTable). StartTold (given .self .controls) (now (given .table)) (given .self .y) answer) (c .before .found .given .1)
     (c .before .before .before .start .ensures)
 
 fit-requires : tie.Need-fit-requires
@@ -40,6 +40,12 @@ fit-requires c κs = search needs
 
 enum-known-fit : tie.Need-enum-known-fit
 enum-known-fit c = search needs
+
+returns : tie.Need-returns
+returns c =
+    let start = c .before .before .before .before .before .before in
+    let given = start .args in
+    λ normal overlay. line-unfit (given .self) (lentOf (now (given .store)) (now (given .table)) normal overlay) (sym (c .before .before .before .fit .ensures) ∙ ap fitTold (c .before .fit2 .given .1))
 
 enum-told : tie.Need-enum-told
 enum-told c = search needs
@@ -50,56 +56,51 @@ start-requires c κs = search needs
 enum-known-found : tie.Need-enum-known-found
 enum-known-found c = search needs
 
-enum-known-found-2 : tie.Need-enum-known-found-2
-enum-known-found-2 c = search needs
-
-check-requires : tie.Need-check-requires
-check-requires c κs =
-    let past = c .before .before .before .before in
-    past .before .before .before .before .before .before .pre .1 ∙ fitted _ (passes past) .store-right
-
-enum-known-fit-2 : tie.Need-enum-known-fit-2
-enum-known-fit-2 c = search needs
-
 enum-told-2 : tie.Need-enum-told-2
 enum-told-2 c = search needs
-
-returns : tie.Need-returns
-returns c =
-    let start = c .before .before .before .before .before .before .before in
-    let given = start .args in
-    λ normal overlay. line-unfit (given .self) (lentOf (now (given .store)) (now (given .table)) normal overlay) (sym (c .before .before .before .before .fit .ensures) ∙ ap fitTold (c .before .fit2 .given .1))
 
 returns-2 : tie.Need-returns-2
 returns-2 c =
     let past = c .before .before .before .before in
-    let start = past .before .before .before .before .before .before in
+    let start = past .before .before .before .before .before in
     let given = start .args in
-    λ normal overlay. line-no-table (given .self) (lentOf (now (given .store)) (now (given .table)) normal overlay) (passes past)
+    subst (λ (answer : LineTable). CheckedTold (given .self) (now (given .store)) (now (given .table)) answer) (sym (c .enum-told2 .given .1))
+    (λ normal overlay. line-no-table (given .self) (lentOf (now (given .store)) (now (given .table)) normal overlay) (passes past)
     (rw (sym (start .pre .2))
-    (subst (λ (answer : LineTable). StartTold (given .self .controls) (now (given .table)) (given .self .y) answer) (c .before .found .given .1) (c .before .before .before .start .ensures) (now (given .store)) normal overlay))
+    (subst (λ (answer : LineTable). StartTold (given .self .controls) (now (given .table)) (given .self .y) answer) (c .enum-told2 .given .1) (c .before .before .start .ensures) (now (given .store)) normal overlay)))
+
+check-runs-requires : tie.Need-check-runs-requires
+check-runs-requires c κs =
+    let past = c .before .before .before .before .before in
+    past .before .before .before .before .before .pre .1 ∙ fitted _ (passes past) .store-right
+
+enum-told-3 : tie.Need-enum-told-3
+enum-told-3 c = search needs
+
+enum-known-checked : tie.Need-enum-known-checked
+enum-known-checked c = search needs
 
 returns-3 : tie.Need-returns-3
 returns-3 c =
-    let found = c .before .before .before .before in
-    let past = found .before .before .before .before in
-    let start = past .before .before .before .before .before .before in
-    let given = start .args in
-    λ normal overlay. line-no-entry (given .self) (lentOf (now (given .store)) (now (given .table)) normal overlay) (passes past) {start = found .before .found2 .given .0 .0}
-    (rw (sym (start .pre .2)) (starts found (now (given .store)) normal overlay))
-    (rw (sym (start .pre .2))
-    (subst (λ (answer : Fit). EntriesTold (given .self .controls) (now (given .store)) (now (given .table)) (found .before .found2 .given .0 .0) answer) (c .before .fit3 .given .1) (c .before .before .before .check .ensures) normal overlay))
-
-returns-4 : tie.Need-returns-4
-returns-4 c =
     let found = c .before .before .before in
-    let past = found .before .before .before .before in
-    let given = past .before .before .before .before .before .before .args in
+    let past = found .before .before .before .before .before in
+    let given = past .before .before .before .before .before .args in
     record {
       fit = passes past;
       starts = starts found (now (given .store));
-      entries = subst (λ (answer : Fit). EntriesTold (given .self .controls) (now (given .store)) (now (given .table)) (found .before .found2 .given .0 .0) answer) (c .enum-told2 .given .1) (c .before .before .check .ensures);
+      entries = subst (λ (answer : Fit). EntriesTold (given .self .controls) (now (given .store)) (now (given .table)) (found .before .found .given .0 .0) answer) (c .enum-told3 .given .1) (c .before .before .check-runs .ensures);
     }
+
+returns-4 : tie.Need-returns-4
+returns-4 c =
+    let found = c .before .before .before .before in
+    let past = found .before .before .before .before .before in
+    let start = past .before .before .before .before .before in
+    let given = start .args in
+    λ normal overlay. line-no-entry (given .self) (lentOf (now (given .store)) (now (given .table)) normal overlay) (passes past) {start = found .before .found .given .0 .0}
+    (rw (sym (start .pre .2)) (starts found (now (given .store)) normal overlay))
+    (rw (sym (start .pre .2))
+    (subst (λ (answer : Fit). EntriesTold (given .self .controls) (now (given .store)) (now (given .table)) (found .before .found .given .0 .0) answer) (c .before .checked .given .1) (c .before .before .before .check-runs .ensures) normal overlay))
 
 pub checked-spec : {M : Type 1} → statement M
 checked-spec =
@@ -107,14 +108,14 @@ checked-spec =
     (tie.spec
     fit-requires
     enum-known-fit
+    returns
     enum-told
     start-requires
     enum-known-found
-    enum-known-found-2
-    check-requires
-    enum-known-fit-2
     enum-told-2
-    returns
     returns-2
+    check-runs-requires
+    enum-told-3
+    enum-known-checked
     returns-3
     returns-4)

@@ -1,4 +1,4 @@
--- `line::controls::Controls::draw` meets its contract: run by run, each into the output from its first pixel on. Assumes nothing.
+-- `line::controls::Controls::draw_runs` meets its contract: run by run, each into the output from its first pixel on. Assumes nothing.
 use Prim.Native.Nat.{_-_, _≤_}
 use mathlib.Core.Path.{_≡_, subst}
 use native.Mathlib.Omega.{arith}
@@ -10,12 +10,12 @@ use Rattle.line.specs.Inner.{RunTold}
 use Rattle.line.specs.declared.runs.RunAt.the-variants.{Is}
 use Rattle.line.specs.declared.runs.RunAt.{RunAt}
 use Rattle.line.proofs.Drawing.{Drawing, draw-start, draw-run, normal-reaches, overlay-reaches, output-reaches, none-refused}
-use Rattle.line.proofs.controls.Controls.draw.Statement.{statement}
-use Rattle.line.proofs.controls.Controls.draw.Tie as tie
-use Rattle.line.proofs.controls.Controls.draw.Reads as reads
+use Rattle.line.proofs.controls.Controls.draw_runs.Statement.{statement}
+use Rattle.line.proofs.controls.Controls.draw_runs.Tie as tie
+use Rattle.line.proofs.controls.Controls.draw_runs.Reads as reads
 use Rattle.line.proofs.controls.Controls.run_at.Reads as run-at-reads
 use Rattle.line.proofs.controls.Controls.screen.Reads as screen-reads
-use Rattle.line.proofs.controls.Controls.draw.Lts as lts
+use Rattle.line.proofs.controls.Controls.draw_runs.Lts as lts
 
 abbrev Inv-loop : tie.InvT-loop
 Inv-loop self y store table start normal overlay out₀ screen x₀ from₀ out x from = Drawing self y store table normal overlay start out₀ out x from
@@ -135,8 +135,8 @@ returns-2 c =
     let e : loop .loop .x ≡ loop .before .before .before .before .before .before .before .args .self .width = omega (arith, loop .loop .inv .passing .in-range) in
     rw e at (loop .loop .inv .list)
 
-pub draw-spec : {M : Type 1} → statement M
-draw-spec =
+pub draw-runs-spec : {M : Type 1} → statement M
+draw-runs-spec =
     tie.close
     (tie.spec
     Inv-loop

@@ -1,4 +1,4 @@
--- `line::controls::Controls::check` meets its contract: run by run, to the first refusal. Assumes nothing.
+-- `line::controls::Controls::check_runs` meets its contract: run by run, to the first refusal. Assumes nothing.
 use Prim.Native.Nat.{_-_}
 use mathlib.Core.Path.{subst}
 use native.Mathlib.Omega.{arith}
@@ -8,11 +8,11 @@ use Rattle.line.specs.Inner.{RunTold}
 use Rattle.line.specs.declared.runs.RunAt.{RunAt}
 use Rattle.line.specs.declared.runs.RunAt.the-variants.{Is}
 use Rattle.line.proofs.Pass.{Passing, pass-start, pass-refused, pass-over, pass-run}
-use Rattle.line.proofs.controls.Controls.check.Statement.{statement}
-use Rattle.line.proofs.controls.Controls.check.Tie as tie
+use Rattle.line.proofs.controls.Controls.check_runs.Statement.{statement}
+use Rattle.line.proofs.controls.Controls.check_runs.Tie as tie
 use Rattle.line.proofs.controls.Controls.run_at.Reads as run-at-reads
-use Rattle.line.proofs.controls.Controls.check.Reads as reads
-use Rattle.line.proofs.controls.Controls.check.Lts as lts
+use Rattle.line.proofs.controls.Controls.check_runs.Reads as reads
+use Rattle.line.proofs.controls.Controls.check_runs.Lts as lts
 
 abbrev Inv-loop : tie.InvT-loop
 Inv-loop self store table start x₀ from₀ x from = Passing self store table start x from
@@ -63,8 +63,8 @@ loop-again c = pass-run _ _ _ _ (c .before .before .before .before .before .befo
 returns-2 : tie.Need-returns-2 Inv-loop μ-loop
 returns-2 c = pass-over _ _ _ _ (c .before .before .loop .inv) (c .if1 .left)
 
-pub check-spec : {M : Type 1} → statement M
-check-spec =
+pub check-runs-spec : {M : Type 1} → statement M
+check-runs-spec =
     tie.close
     (tie.spec
     Inv-loop
