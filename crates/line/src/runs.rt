@@ -41,7 +41,14 @@ impl Controls {
     }
 
     // The run that starts at pixel x.
-    pub(crate) fn run_at(self, store: &[u32], table: &[u8], start: usize, from: usize, x: u32) -> RunAt
+    pub(crate) fn run_at(
+        self,
+        store: &[u32],
+        table: &[u8],
+        start: usize,
+        from: usize,
+        x: u32,
+    ) -> RunAt
         requires { ⌜ PassedAt self (now table) start from x × (x < self .width) × (length (now store) ≡ storeLength) ⌝ }
         ensures { λ r. ⌜ RunTold self (now (store .entry)) (now (table .entry)) start x r ⌝ }
     {

@@ -2,6 +2,8 @@
 use Prim.Native.Nat.{ℕ, _+_, _-_, _≤_, _<_}
 use mathlib.Core.Path.{_≡_}
 use mathlib.Core.Bool.{true, false, and-false, or-true}
+use mathlib.Core.Logic.{_⊎_, inl, inr}
+use native.Mathlib.Omega.{arith}
 use borrow.Author.Tests.{le-leb, lt-leb, eq-eqb, ne-eqb}
 use lib.Dec.{leb, eqb}
 use Rattle.rules.specs.Rule.{value}
@@ -33,26 +35,18 @@ module _ (memory : PixelCell → ℕ) (screen : Screen) (x : ℕ) where
       off-cross-hair column row = rw (on, cross, ne-eqb x (screen .cx) column, ne-eqb (screen .y) (screen .cy) row)
 
     module _ (no-cross : screen .crosshair ≡ false) where
-      -- the pixel is right of the glyph
-      pub right-of : screen .cx < x → value memory (cursorAt screen x) ≡ 0
+      -- the pixel is right or left of the glyph
+      pub beside : (screen .cx < x) ⊎ (x + 32 ≤ screen .cx) → value memory (cursorAt screen x) ≡ 0
       unfolding cursorAt inGlyph
-      right-of h = rw (on, no-cross, lt-leb x (screen .cx) h, and-false (leb (screen .cx) (x + 31)))
+      beside (inl h) = rw (on, no-cross, lt-leb x (screen .cx) h, and-false (leb (screen .cx) (x + 31)))
+      beside (inr h) = rw (on, no-cross, lt-leb (screen .cx) (x + 31) (omega arith))
 
-      -- left of it
-      pub left-of : x + 31 < screen .cx → value memory (cursorAt screen x) ≡ 0
+      -- below or above it
+      pub beyond : (screen .cy < screen .y) ⊎ (screen .y + 32 ≤ screen .cy) → value memory (cursorAt screen x) ≡ 0
       unfolding cursorAt inGlyph
-      left-of h = rw (on, no-cross, lt-leb (screen .cx) (x + 31) h)
-
-      -- below it
-      pub below : screen .cy < screen .y → value memory (cursorAt screen x) ≡ 0
-      unfolding cursorAt inGlyph
-      below h =
+      beyond (inl h) =
           rw (on, no-cross, lt-leb (screen .y) (screen .cy) h, and-false (leb (screen .cy) (screen .y + 31)), and-false (within32 (screen .cx) x))
-
-      -- above it
-      pub above : screen .y + 31 < screen .cy → value memory (cursorAt screen x) ≡ 0
-      unfolding cursorAt inGlyph
-      above h = rw (on, no-cross, lt-leb (screen .cy) (screen .y + 31) h, and-false (within32 (screen .cx) x))
+      beyond (inr h) = rw (on, no-cross, lt-leb (screen .cy) (screen .y + 31) (omega arith), and-false (within32 (screen .cx) x))
 
       -- in it
       pub in-glyph : x ≤ screen .cx → screen .cx ≤ x + 31 → screen .y ≤ screen .cy → screen .cy ≤ screen .y + 31

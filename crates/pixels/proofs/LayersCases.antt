@@ -77,12 +77,13 @@ module _ (memory : PixelCell → ℕ) (screen : Screen) (entry : Entry) (x : ℕ
     unfolding colourOf cursorShown throughGamma
     colour-of-cursor some is = is ∙ sym (value-then memory (cursorAt screen x) _ ∙ rw (← of, ne-eqb number 0 some))
 
-module _ (memory : PixelCell → ℕ) (screen : Screen) (entry : Entry) (none : overlayCounts screen entry ≡ false) where
   -- where neither cursor nor overlay shows, the colour is the plain one
-  pub colour-plain : (x : ℕ) → value memory (cursorAt screen x) ≡ 0 → value memory (plainAt (screen .depth) entry x) ≡ value memory (colourOf screen entry x)
-  colour-plain x clear = colour-under memory screen entry x (sym clear) refl (under-clear memory screen entry x (overlay-none memory screen entry x none) refl refl)
+  pub colour-plain : overlayCounts screen entry ≡ false → value memory (cursorAt screen x) ≡ 0
+      → value memory (plainAt (screen .depth) entry x) ≡ value memory (colourOf screen entry x)
+  colour-plain none clear = colour-under (sym clear) refl (under-clear (overlay-none none) refl refl)
 
-  -- and so it is on a run
-  pub run-plain : (x count : ℕ) (room : List ℕ) {out : List ℕ} → ((p : ℕ) → x ≤ p → p < x + count → value memory (cursorAt screen p) ≡ 0)
+  -- where it is at each pixel of a run, a run of plain colours is right
+  pub run-plain : (count : ℕ) (room : List ℕ) {out : List ℕ}
+      → ((p : ℕ) → x ≤ p → p < x + count → value memory (plainAt (screen .depth) entry p) ≡ value memory (colourOf screen entry p))
       → out ≡ filled (λ p. value memory (plainAt (screen .depth) entry p)) x room count → out ≡ filled (λ p. value memory (colourOf screen entry p)) x room count
-  run-plain x count room clear is = is ∙ filled-same _ _ x room count (λ p low high. colour-plain p (clear p low high))
+  run-plain count room same is = is ∙ filled-same _ _ x room count same

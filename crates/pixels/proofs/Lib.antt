@@ -1,5 +1,6 @@
 pub mod Rows
 pub mod Gamma
+pub mod Indices
 pub mod CursorCases
 pub mod LayersCases
 pub mod Unique

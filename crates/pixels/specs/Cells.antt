@@ -33,7 +33,7 @@ pub data PixelCell : Type 0 where
   -- one channel of a word of the gamma map
   gamma : Channel → ℕ → PixelCell
 
--- glyph word 2·row + ⌊column/16⌋, the leftmost cell in its top two bits
+-- a row of the glyph has two words of 16 cells each, from the top bits down
 abbrev pub glyphCell : List ℕ → ℕ → ℕ → ℕ
 glyphCell store row column = bits (stored store (record { block = CursorGlyph; word = 2 * row + column / 16 })) (30 - 2 * (column % 16)) 2
 

@@ -24,7 +24,7 @@ SaidAt depth entry = (word : ℕ) × (decoded word depth ≡ Defined entry)
 pub data Layer : Type 0 where
   ofCursor ofOverlay ofNormal : Layer
 
--- cursor colours skip gamma; a normal or an overlay colour does where the window entry bypasses it
+-- a cursor colour is shown as it is stored, a normal or an overlay colour where the window entry bypasses gamma
 abbrev pub skipsGamma : Layer → Entry → Bool
 skipsGamma ofCursor entry = true
 skipsGamma ofOverlay entry = entry .bypass
@@ -61,7 +61,7 @@ plainAt depth entry x = normalAt depth entry x >>= throughGamma (skipsGamma ofNo
 unfoldable pub overlaid : Entry → ℕ → Rule ⊥ PixelCell ℕ
 overlaid entry byte = get (mapEntry (4352 + byte)) >>= throughGamma (skipsGamma ofOverlay entry)
 
--- overlay counts where both switches are on
+-- overlay is looked at where the control word and the window entry both say so
 abbrev pub overlayCounts : Screen → Entry → Bool
 overlayCounts screen entry = screen .overlay && entry .overlay
 

@@ -11,8 +11,8 @@ abbrev pub within32 : ℕ → ℕ → Bool
 within32 cursor place = leb cursor (place + 31) && leb place cursor
 
 -- that distance
-abbrev pub cellAt : ℕ → ℕ → ℕ
-cellAt cursor place = place + 31 - cursor
+abbrev pub glyphPlace : ℕ → ℕ → ℕ
+glyphPlace cursor place = place + 31 - cursor
 
 -- the pixel is in a row and a column of the glyph
 unfoldable pub inGlyph : Screen → ℕ → Bool
@@ -27,5 +27,5 @@ unfoldable pub cursorAt : Screen → ℕ → Rule ⊥ PixelCell ℕ
 cursorAt screen x =
     cond (not (screen .cursor)) (done 0)
     (cond (screen .crosshair) (done (cond (onCrossHair screen x) 1 0))
-    (cond (inGlyph screen x) (get (glyph (cellAt (screen .cy) (screen .y)) (cellAt (screen .cx) x)))
+    (cond (inGlyph screen x) (get (glyph (glyphPlace (screen .cy) (screen .y)) (glyphPlace (screen .cx) x)))
     (done 0)))

@@ -1,4 +1,5 @@
 pub mod Cells
+pub mod Sampling
 pub mod Cursor
 pub mod Colour
 pub mod Inner

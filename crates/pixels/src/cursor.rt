@@ -5,7 +5,7 @@ ghost use lib.ListN.{length};
 ghost use Rattle.registers.specs.Store.{storeLength};
 ghost use Rattle.pixels.specs.Cells.{glyphCell};
 ghost use Rattle.pixels.specs.Cursor.{cursorAt};
-ghost use Rattle.pixels.specs.Inner.{OverStore, NoneNear};
+ghost use Rattle.pixels.specs.Inner.{OverStore, Among, NoneNear};
 use crate::Screen;
 use crate::store::stored;
 use registers::Block;
@@ -22,6 +22,16 @@ fn glyph_cell(store: &[u32], row: usize, column: usize) -> u32
     };
     let low = (30 - 2 * (column % 16)) as u32;
     words::bits(stored(store, register), low, 2)
+}
+
+// Whether a place is one of so many from first on.
+fn among(place: usize, first: usize, count: usize) -> bool
+    ensures { λ r. ⌜ Among place first count r ⌝ }
+{
+    if place < first {
+        return false;
+    }
+    place - first < count
 }
 
 impl Screen {
@@ -42,21 +52,13 @@ impl Screen {
             }
             return 0;
         }
-        if self.cx < x {
+        if !among(self.cx, x, 32) {
             return 0;
         }
-        if self.cy < self.y {
+        if !among(self.cy, self.y, 32) {
             return 0;
         }
-        let left = self.cx - x;
-        let up = self.cy - self.y;
-        if 31 < left {
-            return 0;
-        }
-        if 31 < up {
-            return 0;
-        }
-        glyph_cell(store, 31 - up, 31 - left)
+        glyph_cell(store, 31 - (self.cy - self.y), 31 - (self.cx - x))
     }
 
     // Whether a cursor colour can show at one of so many pixels from x on; where not, none does.
@@ -71,20 +73,11 @@ impl Screen {
             if self.y == self.cy {
                 return true;
             }
-            if self.cx < x {
-                return false;
-            }
-            return self.cx - x < count;
+            return among(self.cx, x, count);
         }
-        if self.cy < self.y {
+        if !among(self.cy, self.y, 32) {
             return false;
         }
-        if 31 < self.cy - self.y {
-            return false;
-        }
-        if self.cx < x {
-            return false;
-        }
-        self.cx - x < count + 31
+        among(self.cx, x, count + 31)
     }
 }

@@ -8,8 +8,10 @@ ghost use Rattle.rules.specs.Rule.{get, value};
 ghost use Rattle.registers.specs.Store.{storeLength};
 ghost use Rattle.pixels.specs.Cells.{mapEntry, pixelWord, pixelView};
 ghost use Rattle.pixels.specs.Colour.{SaidAt, throughGamma, normalAt, plainAt, overlayCounts, overlayAt, underCursor, colourOf};
+ghost use Rattle.pixels.specs.Sampling.{samplingOf};
 ghost use Rattle.pixels.specs.Inner.{OverStore, OverNormal, OverOverlay};
 use crate::Screen;
+use crate::sampling::Sampling;
 use crate::store::stored;
 use colour::entry::Entry;
 use colour::entry::Shown;
@@ -41,12 +43,16 @@ fn mapped(store: &[u32], entry: u32) -> u32
 }
 
 // The normal colour of a pixel.
-fn normal_at(depth: u32, entry: Entry, store: &[u32], normal: &[u8], x: usize) -> u32
-    requires { ⌜ SaidAt depth entry × (length (now store) ≡ storeLength) × ((x + 1) * (depth / 8) ≤ length (now normal)) ⌝ }
-    ensures { λ r. ⌜ OverNormal (now (store .entry)) (now (normal .entry)) (normalAt depth entry x) r ⌝ }
+fn normal_at(depth: u32, sampling: Sampling, store: &[u32], normal: &[u8], x: usize) -> u32
+    requires { ⌜ SaidAt depth (sampling .entry) × (length (now store) ≡ storeLength) × ((x + 1) * (depth / 8) ≤ length (now normal)) × (sampling ≡ samplingOf (sampling .entry)) ⌝ }
+    ensures { λ r. ⌜ OverNormal (now (store .entry)) (now (normal .entry)) (normalAt depth (sampling .entry) x) r ⌝ }
 {
     let pixel = pixel_word(depth, normal, x);
-    let shown = entry.shown(entry.sample(pixel));
+    let sample = words::bits(pixel, sampling.entry.low, sampling.bits);
+    if sampling.indexed {
+        return mapped(store, sampling.base + sample);
+    }
+    let shown = sampling.entry.shown(sample);
     match shown {
         Shown::MapEntry(number) => mapped(store, number),
         Shown::Colour(colour) => colour.word(),
@@ -66,16 +72,22 @@ fn through_gamma(store: &[u32], skips: bool, word: u32) -> u32
 }
 
 // The colour of a pixel where neither cursor nor overlay shows.
-pub(crate) fn plain_at(depth: u32, entry: Entry, store: &[u32], normal: &[u8], x: usize) -> u32
-    requires { ⌜ SaidAt depth entry × (length (now store) ≡ storeLength) × ((x + 1) * (depth / 8) ≤ length (now normal)) ⌝ }
-    ensures { λ r. ⌜ OverNormal (now (store .entry)) (now (normal .entry)) (plainAt depth entry x) r ⌝ }
+pub(crate) fn plain_at(
+    depth: u32,
+    sampling: Sampling,
+    store: &[u32],
+    normal: &[u8],
+    x: usize,
+) -> u32
+    requires { ⌜ SaidAt depth (sampling .entry) × (length (now store) ≡ storeLength) × ((x + 1) * (depth / 8) ≤ length (now normal)) × (sampling ≡ samplingOf (sampling .entry)) ⌝ }
+    ensures { λ r. ⌜ OverNormal (now (store .entry)) (now (normal .entry)) (plainAt depth (sampling .entry) x) r ⌝ }
 {
-    let colour = normal_at(depth, entry, store, normal, x);
-    through_gamma(store, entry.bypass, colour)
+    let colour = normal_at(depth, sampling, store, normal, x);
+    through_gamma(store, sampling.entry.bypass, colour)
 }
 
 impl Screen {
-    // Whether overlay counts: both switches are on.
+    // Whether overlay is looked at: the control word and the entry both say so.
     pub(crate) fn overlay_counts(self, entry: Entry) -> bool
         ensures { λ r. ⌜ r ≡ overlayCounts self entry ⌝ }
     {
@@ -107,7 +119,7 @@ impl Screen {
     {
         let byte = self.overlay_at(entry, overlay, x);
         if byte == 0 {
-            return plain_at(self.depth, entry, store, normal, x);
+            return plain_at(self.depth, Sampling::of(entry), store, normal, x);
         }
         through_gamma(store, entry.bypass, mapped(store, 4352 + byte))
     }

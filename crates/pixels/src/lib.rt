@@ -1,7 +1,8 @@
 // Pixels: the colour that each pixel of a line shows, and runs of them.
-pub mod cursor;
+mod cursor;
 pub mod fill;
-pub mod layers;
+mod layers;
+mod sampling;
 mod store;
 
 // What the control words say of every pixel of a line: the switches, the depth, where the cursor is, and the line's number.

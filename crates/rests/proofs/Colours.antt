@@ -14,7 +14,7 @@ use Rattle.colour.specs.declared.entry.Entry.{Entry}
 use Rattle.colour.specs.declared.entry.Shown.{Shown}
 use Rattle.colour.specs.declared.entry.Shown.the-variants.{MapEntry, Colour}
 use Rattle.pixels.specs.Cells.{Channel, inRed, inGreen, inBlue, channelIn, PixelCell, glyph, overlayByte, mapEntry, gamma}
-use Rattle.pixels.specs.Cursor.{cellAt, inGlyph, onCrossHair, cursorAt}
+use Rattle.pixels.specs.Cursor.{glyphPlace, inGlyph, onCrossHair, cursorAt}
 use Rattle.pixels.specs.Colour.{throughGamma, shownColour, normalAt, plainAt, overlaid, overlayCounts, overlayAt, underCursor, cursorShown, colourOf}
 use Rattle.pixels.specs.declared.Screen.{Screen}
 use Rattle.rests.specs.ColourList.{cursorHere, overlayHere, usedCell, beforeGamma, ColourListed}
@@ -65,7 +65,7 @@ module _ (memory : PixelCell → ℕ) where
             → Among cell (reads {R = ⊥} memory
             (cond (not on) (done 0)
             (cond crosshair (done (cond (onCrossHair screen x) 1 0))
-            (cond inside (get (glyph (cellAt (screen .cy) (screen .y)) (cellAt (screen .cx) x))) (done 0)))))
+            (cond inside (get (glyph (glyphPlace (screen .cy) (screen .y)) (glyphPlace (screen .cx) x))) (done 0)))))
             → ColourListed memory screen entry x cell
         by false crosshair inside e f g there = absurd (List·Memᴰ·not-nil there)
         by true true inside e f g there = absurd (List·Memᴰ·not-nil there)

@@ -11,7 +11,7 @@ use Rattle.colour.specs.Shown.{shownOf}
 use Rattle.colour.specs.declared.entry.Entry.{Entry}
 use Rattle.colour.specs.declared.entry.Shown.the-variants.{MapEntry}
 use Rattle.pixels.specs.Cells.{channelIn, PixelCell, glyph, cursorColour, overlayByte, sample, mapEntry, gamma}
-use Rattle.pixels.specs.Cursor.{cellAt, inGlyph, cursorAt}
+use Rattle.pixels.specs.Cursor.{glyphPlace, inGlyph, cursorAt}
 use Rattle.pixels.specs.Colour.{normalAt, overlayCounts, overlayAt}
 use Rattle.pixels.specs.declared.Screen.{Screen}
 
@@ -37,8 +37,8 @@ module _ (memory : PixelCell → ℕ) (screen : Screen) (entry : Entry) (x : ℕ
     pub on : screen .cursor ≡ true
     pub no-crosshair : screen .crosshair ≡ false
     pub inside : inGlyph screen x ≡ true
-    pub at-row : row ≡ cellAt (screen .cy) (screen .y)
-    pub at-column : column ≡ cellAt (screen .cx) x
+    pub at-row : row ≡ glyphPlace (screen .cy) (screen .y)
+    pub at-column : column ≡ glyphPlace (screen .cx) x
 
   -- the cursor colour shown
   pub record CursorColourListed (number : ℕ) : Type 0 where

@@ -7,13 +7,21 @@ use borrow.Author.Needs.{needs}
 use borrow.Author.Tests.{not-true, not-false}
 use lib.Dec.{lit<}
 use Rattle.pixels.specs.Cells.{pixelView, glyphCell}
-use Rattle.pixels.proofs.CursorCases.{cursor-off, on-column, on-row, off-cross-hair, right-of, left-of, below, above, in-glyph}
+use Rattle.pixels.proofs.CursorCases.{cursor-off, on-column, on-row, off-cross-hair, beside, beyond, in-glyph}
 use Rattle.pixels.proofs.Screen.cursor_at.Statement.{statement}
 use Rattle.pixels.proofs.Screen.cursor_at.Tie as tie
 
 -- past the first test the cursor is on
 on : (c : tie.Else1) → c .before .before .before .args .self .cursor ≡ true
 on c = not-false _ (c .if1 .left)
+
+-- past both tests of the glyph the pixel is in its columns
+in-columns : (c : tie.Else6) → let a = c .before .before .before .before .before .before .before .before .args in (a .x ≤ a .self .cx) × (a .self .cx < a .x + 32)
+in-columns c = c .before .before .before .among .ensures .0 (not-false _ (c .before .before .if5 .left))
+
+-- and in its rows
+in-rows : (c : tie.Else6) → let s = c .before .before .before .before .before .before .before .before .args .self in (s .y ≤ s .cy) × (s .cy < s .y + 32)
+in-rows c = c .before .among2 .ensures .0 (not-false _ (c .if6 .left))
 
 returns : tie.Need-returns
 returns c =
@@ -35,42 +43,49 @@ returns-4 c =
     let a = c .before .before .before .before .before .before .before .before .args in
     (λ normal overlay. sym (off-cross-hair (pixelView (a .store .now) normal overlay) (a .self) (a .x) (on (c .before .before .before .before .before)) (c .before .before .before .before .if2 .taken) (c .before .before .if3 .left) (c .if4 .left)), lit< tt)
 
+among-requires : tie.Need-among-requires
+among-requires c κs = search needs
+
 returns-5 : tie.Need-returns-5
 returns-5 c =
     let a = c .before .before .before .before .before .before .args in
-    (λ normal overlay. sym (right-of (pixelView (a .store .now) normal overlay) (a .self) (a .x) (on (c .before .before .before)) (c .before .before .if2 .left) (c .if5 .taken)), lit< tt)
+    (λ normal overlay. sym (beside (pixelView (a .store .now) normal overlay) (a .self) (a .x) (on (c .before .before .before)) (c .before .before .if2 .left) (c .before .among .ensures .1 (not-true _ (c .if5 .taken)))), lit< tt)
+
+among-requires-2 : tie.Need-among-requires-2
+among-requires-2 c κs = search needs
 
 returns-6 : tie.Need-returns-6
 returns-6 c =
     let a = c .before .before .before .before .before .before .before .before .args in
-    (λ normal overlay. sym (below (pixelView (a .store .now) normal overlay) (a .self) (a .x) (on (c .before .before .before .before .before)) (c .before .before .before .before .if2 .left) (c .if6 .taken)), lit< tt)
+    (λ normal overlay. sym (beyond (pixelView (a .store .now) normal overlay) (a .self) (a .x) (on (c .before .before .before .before .before)) (c .before .before .before .before .if2 .left) (c .before .among2 .ensures .1 (not-true _ (c .if6 .taken)))), lit< tt)
 
-returns-7 : tie.Need-returns-7
-returns-7 c =
-    let a = c .before .before .before .before .before .before .before .before .before .before .before .args in
-    let far : a .x + 31 < a .self .cx = omega (arith, c .if7 .taken) in
-    (λ normal overlay. sym (left-of (pixelView (a .store .now) normal overlay) (a .self) (a .x) (on (c .before .before .before .before .before .before .before .before)) (c .before .before .before .before .before .before .before .if2 .left) far), lit< tt)
+sub-glyph-cell : tie.Need-sub-glyph-cell
+sub-glyph-cell c = omega (arith, in-rows (c .before))
 
-returns-8 : tie.Need-returns-8
-returns-8 c =
-    let a = c .before .before .before .before .before .before .before .before .before .before .before .before .args in
-    let far : a .self .y + 31 < a .self .cy = omega (arith, c .if8 .taken) in
-    (λ normal overlay. sym (above (pixelView (a .store .now) normal overlay) (a .self) (a .x) (on (c .before .before .before .before .before .before .before .before .before)) (c .before .before .before .before .before .before .before .before .if2 .left) far), lit< tt)
+sub-glyph-cell-2 : tie.Need-sub-glyph-cell-2
+sub-glyph-cell-2 c = omega (arith, in-rows (c .before))
+
+sub-glyph-cell-3 : tie.Need-sub-glyph-cell-3
+sub-glyph-cell-3 c = omega (arith, in-columns (c .before .before))
+
+sub-glyph-cell-4 : tie.Need-sub-glyph-cell-4
+sub-glyph-cell-4 c = omega (arith, in-columns (c .before .before))
 
 glyph-cell-requires : tie.Need-glyph-cell-requires
 glyph-cell-requires c κs = search needs
 
-returns-9 : tie.Need-returns-9
-returns-9 c =
-    let a = c .before .before .before .before .before .before .before .before .before .before .before .before .before .args in
-    let right : a .x ≤ a .self .cx = c .before .before .before .before .before .before .before .if5 .left in
-    let bottom : a .self .y ≤ a .self .cy = c .before .before .before .before .before .if6 .left in
-    let left : a .self .cx ≤ a .x + 31 = omega (arith, c .before .before .if7 .left) in
-    let top : a .self .cy ≤ a .self .y + 31 = omega (arith, c .before .if8 .left) in
-    let column : 31 - (a .self .cx - a .x) ≡ a .x + 31 - a .self .cx = omega arith in
-    let row : 31 - (a .self .cy - a .self .y) ≡ a .self .y + 31 - a .self .cy = omega arith in
+returns-7 : tie.Need-returns-7
+returns-7 c =
+    let else = c .before .before .before in
+    let a = else .before .before .before .before .before .before .before .before .args in
+    let columns = in-columns else in
+    let rows = in-rows else in
+    let left : a .self .cx ≤ a .x + 31 = omega (arith, columns .1) in
+    let top : a .self .cy ≤ a .self .y + 31 = omega (arith, rows .1) in
+    let column : 31 - (a .self .cx - a .x) ≡ a .x + 31 - a .self .cx = omega (arith, columns .0) in
+    let row : 31 - (a .self .cy - a .self .y) ≡ a .self .y + 31 - a .self .cy = omega (arith, rows .0) in
     let is : c .glyph-cell .result ≡ glyphCell (a .store .now) (a .self .y + 31 - a .self .cy) (a .x + 31 - a .self .cx) = rw (← column, ← row) (c .glyph-cell .ensures .0) in
-    (λ normal overlay. is ∙ sym (in-glyph (pixelView (a .store .now) normal overlay) (a .self) (a .x) (on (c .before .before .before .before .before .before .before .before .before .before)) (c .before .before .before .before .before .before .before .before .before .if2 .left) right left bottom top), c .glyph-cell .ensures .1)
+    (λ normal overlay. is ∙ sym (in-glyph (pixelView (a .store .now) normal overlay) (a .self) (a .x) (on (else .before .before .before .before .before)) (else .before .before .before .before .if2 .left) (columns .0) left (rows .0) top), c .glyph-cell .ensures .1)
 
 pub cursor-at-spec : {M : Type 1} → statement M
 cursor-at-spec =
@@ -80,9 +95,13 @@ cursor-at-spec =
     returns-2
     returns-3
     returns-4
+    among-requires
     returns-5
+    among-requires-2
     returns-6
-    returns-7
-    returns-8
+    sub-glyph-cell
+    sub-glyph-cell-2
+    sub-glyph-cell-3
+    sub-glyph-cell-4
     glyph-cell-requires
-    returns-9)
+    returns-7)

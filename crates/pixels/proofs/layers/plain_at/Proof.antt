@@ -15,7 +15,7 @@ returns : tie.Need-returns
 returns c =
     let a = c .before .before .before .before .args in
     λ overlay.
-    plain-of-normal (pixelView (a .store .now) (a .normal .now) overlay) (a .depth) (a .entry) (a .x)
+    plain-of-normal (pixelView (a .store .now) (a .normal .now) overlay) (a .depth) (a .sampling .entry) (a .x)
     (c .before .normal-at .ensures overlay)
     (c .through-gamma .ensures (a .normal .now) overlay)
 
