@@ -19,6 +19,7 @@ channelIn inRed colour = colour .red
 channelIn inGreen colour = colour .green
 channelIn inBlue colour = colour .blue
 
+-- a cell that a colour may rest on
 pub data PixelCell : Type 0 where
   -- two bits of the cursor's glyph, by row and column
   glyph : ℕ → ℕ → PixelCell

@@ -135,6 +135,7 @@ module _ (setup : Setup) (lent : Lent) where
     pub on : setup .controls .ids ≡ true
     pub none : run (tableView (lent .table)) (lineTableOf (setup .lengths .table) (setup .y)) ≡ refused refusal
 
+  -- a start that is refused is refused by that search
   pub no-frame : {refusal : Numbered} → run (view lent) starting ≡ refused refusal → NoFrame refusal
   no-frame {refusal} e = by (setup .controls .ids) refl
     where
@@ -156,6 +157,7 @@ module _ (setup : Setup) (lent : Lent) where
         let at = refused-look-up-read (tableView (lent .table)) (numbered (NoFrameEntry (setup .y))) yend lineTable (frameEntries (setup .lengths .table)) (setup .y) (lacks .none) (found .here) in
         subst (NoFrameListed setup lent) (sym (found .is ∙ ap ofTable (at .is))) (record { on = lacks .on; within = at .below })
 
+    -- and every end is read
     pub no-frame-listed : (number : ℕ) → number < frameEntries (setup .lengths .table) → Among (ofTable (yend number)) (reads (view lent) starting)
     unfolding lineTableOf
     no-frame-listed number below =

@@ -46,6 +46,7 @@ module _ {A : Type 0} {at : ℕ → A} {from count : ℕ} {room : List A} where
   fill-over {now} {i} fill all = let e : i ≡ count = omega arith in rw (← e) (fill .list)
 
 module _ {A : Type 0} (f g : ℕ → A) where
+  -- two functions that agree on a stretch have the same values there
   values-same : (count from : ℕ) → ((p : ℕ) → from ≤ p → p < from + count → f p ≡ g p) → values f count from ≡ values g count from
   values-same zero from same = refl
   values-same (suc count) from same =
@@ -72,6 +73,7 @@ module _ {A : Type 0} where
   tail-back x list last = rw (← length-drop x list, drop-length, append-nil)
 
 module _ {A : Type 0} (f g : ℕ → A) where
+  -- a run of so many, into what stands from x on
   run-on : (x count : ℕ) (room out last : List A) → out ≡ filled f 0 room x → last ≡ filled g x (take (length out - x) (drop x out)) count
       → ((p : ℕ) → x ≤ p → p < x + count → g p ≡ f p) → putMid x (length out - x) out last ≡ filled f 0 room (x + count)
   run-on x count room out last before run same =

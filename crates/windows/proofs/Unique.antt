@@ -25,10 +25,12 @@ by-saying-and told answer-of back Exit is More k args answer other exit exit′ 
 
 -- ---- line tables
 
+-- the answer that says so
 abbrev table-answer : Outcome Numbered ℕ → LineTable
 table-answer (ok byte) = Starts byte
 table-answer (refused refusal) = TableRefused (refusalOf refusal)
 
+-- an answer is known by what it says
 table-back : (answer : LineTable) → table-answer (frame-spec.told answer) ≡ answer
 table-back (Starts byte) = refl
 table-back (TableRefused refusal) = ap TableRefused (known refusal)
@@ -38,10 +40,12 @@ line-table-unique = by-saying-and frame-spec.told table-answer table-back _ _ _
 
 -- ---- IDs
 
+-- the answer that says so
 abbrev id-answer : Outcome Numbered Found → LookedUp
 id-answer (ok found) = Id found
 id-answer (refused refusal) = IdRefused (refusalOf refusal)
 
+-- an answer is known by what it says
 id-back : (answer : LookedUp) → id-answer (ids-spec.told answer) ≡ answer
 id-back (Id found) = refl
 id-back (IdRefused refusal) = ap IdRefused (known refusal)
