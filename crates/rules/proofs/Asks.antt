@@ -56,11 +56,6 @@ module _ {R Q A : Type 0} where
   asks-cond Allowed true yes-rule no-rule asks-yes asks-no = asks-yes
   asks-cond Allowed false yes-rule no-rule asks-yes asks-no = asks-no
 
-  -- a rule by a test never refuses where neither side does
-  pub never-cond : (test : Bool) (yes-rule no-rule : Rule R Q A) → NeverRefuses yes-rule → NeverRefuses no-rule → NeverRefuses (cond test yes-rule no-rule)
-  never-cond true yes-rule no-rule never-yes never-no = never-yes
-  never-cond false yes-rule no-rule never-yes never-no = never-no
-
   -- a rule whose every cell is allowed
   pub asks-any : (Allowed : Q → Type 0) → ((cell : Q) → Allowed cell) → (rule : Rule R Q A) → Asks Allowed rule
   asks-any Allowed all (done answer) = tt

@@ -5,10 +5,8 @@ use mathlib.Core.Bool.{Bool, true, false, cond}
 use mathlib.Core.List.{List, [], _∷_}
 use Rattle.rules.specs.Rule.{Outcome, ok, refused, stop, run, reads}
 use Rattle.rules.specs.Faults.{Numbered, Fault, Clear, First, unless}
-use Rattle.rules.specs.Asks.{Asks}
 use Rattle.rules.specs.Checked.{checked, verdict}
 use Rattle.rules.proofs.Then.{run-cond, reads-cond}
-use Rattle.rules.proofs.Asks.{asks-cond}
 use Rattle.rules.proofs.Faults.{none-holds, first-holds, refused-first, accepted-clear}
 
 -- what a call that changes nothing answers, by its faults
@@ -63,8 +61,3 @@ module _ {Q : Type 0} (memory : Q → ℕ) where
   checked-reads [] = refl
   checked-reads (fault ∷ faults) =
       reads-cond memory (fault .holds) (stop (fault .refusal)) (checked faults) ∙ none-read (fault .holds) (checked-reads faults)
-
--- and asks for nothing, whatever the memory
-pub checked-asks : {Q : Type 0} (Allowed : Q → Type 0) (faults : List Fault) → Asks Allowed (checked faults)
-checked-asks Allowed [] = tt
-checked-asks Allowed (fault ∷ faults) = asks-cond Allowed (fault .holds) (stop (fault .refusal)) (checked faults) tt (checked-asks Allowed faults)

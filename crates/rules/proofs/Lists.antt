@@ -1,4 +1,4 @@
--- The values at successive positions: how many, which, and one stretch behind another. Assumes nothing.
+-- The values at successive positions: how many, and one stretch behind another. Assumes nothing.
 use Prim.Native.Nat.{ℕ, zero, suc, _+_}
 use mathlib.Core.Path.{_≡_, refl, ap, _∙_}
 use mathlib.Core.List.{List, _∷_, _++_}

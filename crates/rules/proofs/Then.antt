@@ -2,7 +2,7 @@
 use Prim.Native.Nat.{ℕ}
 use mathlib.Core.Bool.{Bool, true, false, cond}
 use mathlib.Core.Path.{_≡_, refl, ap, _∙_}
-use mathlib.Core.List.{List, _∷_, _++_, map, append-nil}
+use mathlib.Core.List.{List, _∷_, _++_, append-nil}
 use Rattle.rules.specs.Rule.{Rule, done, stop, ask, Outcome, ok, refused, run, reads, _>>=_, andThen, andThenReads, within, renamed}
 
 module _ {R Q A B : Type 0} (memory : Q → ℕ) where
@@ -58,9 +58,3 @@ module _ {R S P Q A : Type 0} (name : R → S) (into : P → Q) (memory : Q → 
   run-within (done answer) = refl
   run-within (stop refusal) = refl
   run-within (ask cell on) = run-within (on (memory (into cell)))
-
-  -- what such a rule reads
-  pub reads-within : (rule : Rule R P A) → reads memory (within name into rule) ≡ map into (reads (λ cell. memory (into cell)) rule)
-  reads-within (done answer) = refl
-  reads-within (stop refusal) = refl
-  reads-within (ask cell on) = ap (λ (cells : List Q). into cell ∷ cells) (reads-within (on (memory (into cell))))
