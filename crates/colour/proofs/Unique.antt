@@ -2,15 +2,11 @@
 use Rattle.rules.specs.Unique.{OneAnswer}
 use Rattle.rules.proofs.Unique.{by-equation}
 use Rattle.colour.proofs.entry.decode.Reads as decode
-use Rattle.colour.proofs.entry.Entry.sample.Reads as sample
 use Rattle.colour.proofs.entry.Entry.shown.Reads as shown
 use Rattle.colour.proofs.gamma.corrected.Reads as corrected
 
 pub decode-unique : OneAnswer decode.Post
 decode-unique = by-equation _ _
-
-pub sample-unique : OneAnswer sample.Post
-sample-unique = by-equation _ _
 
 pub shown-unique : OneAnswer shown.Post
 shown-unique = by-equation _ _

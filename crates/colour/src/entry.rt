@@ -1,8 +1,7 @@
 // Window entries: what an entry says at a depth, and what a sample then shows.
-ghost use Prim.Native.Nat.{_<_};
 ghost use mathlib.Core.Path.{_≡_};
 ghost use Rattle.colour.specs.Entry.{lowOf, decoded};
-ghost use Rattle.colour.specs.Shown.{sampleOf, shownOf};
+ghost use Rattle.colour.specs.Shown.{shownOf};
 use formats::Format;
 use formats::Index8;
 use formats::Index12;
@@ -75,16 +74,6 @@ pub fn decode(entry: u32, depth: u32) -> Decoded
 }
 
 impl Entry {
-    // The sample of a pixel: the bits that the format uses, of the buffer that the entry says.
-    pub fn sample(self, pixel: u32) -> u32
-        requires { ⌜ self .low < 32 ⌝ }
-        ensures { λ r. ⌜ r ≡ sampleOf self pixel ⌝ }
-    {
-        let format = self.format;
-        let bits = format.widths().bits;
-        words::bits(pixel, self.low, bits)
-    }
-
     // What a sample shows.
     pub fn shown(self, sample: u32) -> Shown
         ensures { λ r. ⌜ r ≡ shownOf self sample ⌝ }
