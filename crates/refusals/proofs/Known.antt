@@ -4,9 +4,9 @@ use mathlib.Core.Path.{_≡_, refl}
 use mathlib.Core.List.{List, [], _∷_}
 use lib.ListN.{getD}
 use Rattle.rules.specs.Faults.{Numbered, placeIn}
-use Rattle.refusals.specs.Refusal.{numbered}
+use Rattle.refusals.specs.Refusal.{numbered, placeOf}
 use Rattle.refusals.specs.declared.Refusal.{Refusal}
-use Rattle.refusals.specs.declared.Refusal.the-variants.{NoRegister, ReadOnly, StrayBits, QueueFull, StoreLength, TableLength, NormalLength, OverlayLength, OutputLength, BelowActive, NoFrameEntry, NoLineEntry, UndefinedEntry, AboveTotal, BadState}
+use Rattle.refusals.specs.declared.Refusal.the-variants.{NoRegister, ReadOnly, StrayBits, QueueFull, StoreLength, TableLength, NormalLength, OverlayLength, OutputLength, BelowActive, NoFrameEntry, NoLineEntry, UndefinedEntry, AboveTotal, BadState, WrongRecord, FileEnds, TooMuch}
 
 -- the refusals of a wrong length, in the order of their places
 abbrev wrongLengths : List Refusal
@@ -26,6 +26,10 @@ refusalsAt place =
     ∷ NoLineEntry place
     ∷ UndefinedEntry place
     ∷ AboveTotal
+    ∷ BadState
+    ∷ WrongRecord place
+    ∷ FileEnds place
+    ∷ TooMuch place
     ∷ []
 
 -- the refusal of a number and its values
@@ -49,3 +53,27 @@ known (NoLineEntry x) = refl
 known (UndefinedEntry x) = refl
 known AboveTotal = refl
 known BadState = refl
+known (WrongRecord number) = refl
+known (FileEnds number) = refl
+known (TooMuch number) = refl
+
+-- every refusal has one value, its place
+pub one-value : (refusal : Refusal) → numbered refusal .values ≡ placeOf refusal ∷ []
+one-value (NoRegister address) = refl
+one-value (ReadOnly address) = refl
+one-value (StrayBits address) = refl
+one-value (QueueFull address) = refl
+one-value StoreLength = refl
+one-value TableLength = refl
+one-value NormalLength = refl
+one-value OverlayLength = refl
+one-value OutputLength = refl
+one-value (BelowActive y) = refl
+one-value (NoFrameEntry y) = refl
+one-value (NoLineEntry x) = refl
+one-value (UndefinedEntry x) = refl
+one-value AboveTotal = refl
+one-value BadState = refl
+one-value (WrongRecord number) = refl
+one-value (FileEnds number) = refl
+one-value (TooMuch number) = refl

@@ -4,13 +4,13 @@ use mathlib.Core.Bool.{Bool}
 use mathlib.Core.List.{[], _∷_}
 use Rattle.rules.specs.Faults.{Numbered, Fault, placeIn}
 use Rattle.refusals.specs.declared.Refusal.{Refusal}
-use Rattle.refusals.specs.declared.Refusal.the-variants.{NoRegister, ReadOnly, StrayBits, QueueFull, StoreLength, TableLength, NormalLength, OverlayLength, OutputLength, BelowActive, NoFrameEntry, NoLineEntry, UndefinedEntry, AboveTotal, BadState}
+use Rattle.refusals.specs.declared.Refusal.the-variants.{NoRegister, ReadOnly, StrayBits, QueueFull, StoreLength, TableLength, NormalLength, OverlayLength, OutputLength, BelowActive, NoFrameEntry, NoLineEntry, UndefinedEntry, AboveTotal, BadState, WrongRecord, FileEnds, TooMuch}
 
 -- a number, with the place as the only value
 abbrev numberAt : ℕ → ℕ → Numbered
 numberAt number place = record { number = number; values = place ∷ [] }
 
--- 1 to 4 are placed at the address; 5 at 1 for the store, 2 the table, 3 the normal row, 4 the overlay row, 5 the output; 6 and 7 at the line, 8 and 9 at the pixel, 10 and 11 at 0
+-- 1 to 4 are placed at the address; 5 at 1 for the store, 2 the table, 3 the normal row, 4 the overlay row, 5 the output; 6 and 7 at the line, 8 and 9 at the pixel, 10 and 11 at 0; 12 to 14 at the record
 abbrev pub numbered : Refusal → Numbered
 numbered (NoRegister address) = numberAt 1 address
 numbered (ReadOnly address) = numberAt 2 address
@@ -27,6 +27,9 @@ numbered (NoLineEntry x) = numberAt 8 x
 numbered (UndefinedEntry x) = numberAt 9 x
 numbered AboveTotal = numberAt 10 0
 numbered BadState = numberAt 11 0
+numbered (WrongRecord number) = numberAt 12 number
+numbered (FileEnds number) = numberAt 13 number
+numbered (TooMuch number) = numberAt 14 number
 
 -- its number alone
 abbrev pub numberOf : Refusal → ℕ

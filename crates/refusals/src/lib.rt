@@ -1,9 +1,9 @@
-// The refusals of every call on the chip, and the paper's number and place of each.
+// The refusals of every call on the chip and of a session's records, and the paper's number and place of each.
 ghost use mathlib.Core.Path.{_≡_};
 ghost use Rattle.refusals.specs.Refusal.{numberOf, placeOf};
 
 // Why a call is refused. NoRegister to QueueFull hold the address, 24 bits of it; BelowActive and NoFrameEntry the line; NoLineEntry and
-// UndefinedEntry the pixel.
+// UndefinedEntry the pixel; WrongRecord, FileEnds and TooMuch the record's number.
 pub enum Refusal {
     NoRegister(u32),
     ReadOnly(u32),
@@ -20,6 +20,9 @@ pub enum Refusal {
     UndefinedEntry(u32),
     AboveTotal,
     BadState,
+    WrongRecord(u32),
+    FileEnds(u32),
+    TooMuch(u32),
 }
 
 impl Refusal {
@@ -43,6 +46,9 @@ impl Refusal {
             Refusal::UndefinedEntry(_) => 9,
             Refusal::AboveTotal => 10,
             Refusal::BadState => 11,
+            Refusal::WrongRecord(_) => 12,
+            Refusal::FileEnds(_) => 13,
+            Refusal::TooMuch(_) => 14,
         }
     }
 
@@ -66,6 +72,9 @@ impl Refusal {
             Refusal::UndefinedEntry(x) => x,
             Refusal::AboveTotal => 0,
             Refusal::BadState => 0,
+            Refusal::WrongRecord(record) => record,
+            Refusal::FileEnds(record) => record,
+            Refusal::TooMuch(record) => record,
         }
     }
 }
