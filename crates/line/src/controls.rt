@@ -48,7 +48,7 @@ fn size(word: u32, high: u32, low: u32) -> u32
 
 impl Controls {
     // What nine control words say.
-    pub(crate) fn of(control: [u32; 9]) -> Self
+    pub fn of(control: [u32; 9]) -> Self
         ensures { λ r. ⌜ r ≡ controlsOf control ⌝ }
     {
         let switches = control[0];

@@ -1,5 +1,5 @@
 // One drawn line.
-mod controls;
+pub mod controls;
 pub mod draw;
 mod faults;
 mod passes;

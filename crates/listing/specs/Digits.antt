@@ -1,0 +1,27 @@
+-- Numbers as text, in ASCII: decimal without leading zeros, and a colour as six lower-case hex digits.
+use Prim.Native.Nat.{ℕ, zero, suc, _+_, _/_, _%_, _^_}
+use mathlib.Core.Bool.{cond}
+use mathlib.Core.List.{List, [], _∷_, _++_}
+use lib.Dec.{ltb}
+
+-- a digit: 0 to 9, then a to f
+abbrev pub digit : ℕ → ℕ
+digit number = cond (ltb number 10) (48 + number) (87 + number)
+
+-- a number of at most so many decimal digits
+abbrev pub decimalIn : ℕ → ℕ → List ℕ
+decimalIn zero number = []
+decimalIn (suc count) number = cond (ltb number 10) (digit number ∷ []) (decimalIn count (number / 10) ++ digit (number % 10) ∷ [])
+
+-- a number in decimal: it has fewer digits than it counts, and one more
+unfoldable pub decimal : ℕ → List ℕ
+decimal number = decimalIn (suc number) number
+
+-- the lowest so many hex digits of a number
+abbrev pub hexIn : ℕ → ℕ → List ℕ
+hexIn zero number = []
+hexIn (suc count) number = digit (number / 16 ^ count % 16) ∷ hexIn count number
+
+-- a colour
+unfoldable pub hex : ℕ → List ℕ
+hex colour = hexIn 6 colour

@@ -1,0 +1,2 @@
+// The listing of a session, as text.
+pub mod entry;

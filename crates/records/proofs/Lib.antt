@@ -1,0 +1,9 @@
+pub mod Tests
+pub mod ByTag
+pub mod Whole
+pub mod Answers
+pub mod Judged
+pub mod Accepted
+pub mod Limits
+pub mod Behind
+pub mod Unique

@@ -1,0 +1,4 @@
+pub mod Asked
+pub mod Rooms
+pub mod Records
+pub mod Stepping

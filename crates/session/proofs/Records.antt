@@ -1,0 +1,106 @@
+-- What each record leaves in the rooms. Assumes nothing.
+use Prim.Native.Nat.{ℕ, _+_}
+use mathlib.Core.Path.{_≡_, sym, ap, _∙_}
+use mathlib.Core.List.{List}
+use lib.ListN.{length}
+use lib.Seq.{paste}
+use Rattle.rules.specs.Rule.{Outcome, ok}
+use Rattle.rules.specs.Faults.{Numbered}
+use Rattle.chip.specs.Call.{Chip}
+use Rattle.chip.specs.Write.{written}
+use Rattle.chip.specs.Dots.{ran}
+use Rattle.records.specs.declared.record.Record.the-variants.{End, Write, Dots, Table, Normal, Overlay, Line}
+use Rattle.listing.specs.Text.{line}
+use Rattle.listing.specs.Text.{ok as done}
+use Rattle.line.specs.Controls.{controlsOf}
+use Rattle.line.specs.Cells.{lentOf}
+use Rattle.line.specs.Drawn.{drawn}
+use Rattle.session.specs.Record.{Came, listed, ended, entryOf, atPosition}
+use Rattle.session.specs.Lent.{Rooms, roomsOf, heldIn}
+use Rattle.session.specs.Inner.{withCounts, askedIn, Within, actedIn}
+use Rattle.session.specs.declared.session.Session.{Session}
+use Rattle.session.proofs.Rooms.{back, back-chip, back-line, back-table, back-normal, back-overlay}
+
+-- what is left, and what it comes to
+abbrev Result : Type 0
+Result = (Session × Rooms) × Outcome Numbered Came
+
+module _ (session : Session) (rooms : Rooms) (body : List ℕ) (within : Within session rooms) where
+  -- left so, and come to this
+  abbrev come-to : Came → Session × Rooms → Result
+  come-to came left = (left, ok came)
+
+  -- the end record
+  pub acts-end : come-to ended (session, rooms) ≡ actedIn session rooms End body
+  unfolding actedIn
+  acts-end = ap (come-to ended) (sym (back session rooms within))
+
+  -- what a call on the chip left in the store is in the rooms
+  abbrev stored : (Session × List ℕ) × Outcome Numbered Came → Result
+  stored left = ((left .0 .0, roomsOf (left .0 .1) (rooms .table) (rooms .normal) (rooms .overlay) (rooms .output)), left .1)
+
+  -- a write
+  pub acts-write : (address value : ℕ) {left : (Session × List ℕ) × Outcome Numbered Came}
+      → left ≡ askedIn session done (written (session .state, rooms .store) address value)
+      → stored left ≡ actedIn session rooms (Write address value) body
+  unfolding actedIn
+  acts-write address value is =
+      let after = written (session .state, rooms .store) address value in
+      ap stored is ∙ ap (come-to (listed (entryOf done (after .1)))) (sym (back-chip session rooms within (after .0)))
+
+  -- some dots
+  pub acts-dots : (count : ℕ) {left : (Session × List ℕ) × Outcome Numbered Came}
+      → left ≡ askedIn session (atPosition (ran (session .state, rooms .store) count .0 .0 .at)) (ran (session .state, rooms .store) count)
+      → stored left ≡ actedIn session rooms (Dots count) body
+  unfolding actedIn
+  acts-dots count is =
+      let after = ran (session .state, rooms .store) count in
+      ap stored is ∙ ap (come-to (listed (entryOf (atPosition (after .0 .0 .at)) (after .1)))) (sym (back-chip session rooms within (after .0)))
+
+  -- table bytes
+  pub acts-table :
+      come-to (listed done) (
+        withCounts session (session .table + length body) (session .normal) (session .overlay),
+        roomsOf (rooms .store) (paste (rooms .table) (session .table) body (length body)) (rooms .normal) (rooms .overlay) (rooms .output),
+      )
+      ≡ actedIn session rooms Table body
+  unfolding actedIn
+  acts-table = ap (come-to (listed done)) (sym (back-table session rooms within body))
+
+  -- a normal row
+  pub acts-normal :
+      come-to (listed done) (
+        withCounts session (session .table) (length body) (session .overlay),
+        roomsOf (rooms .store) (rooms .table) (paste (rooms .normal) 0 body (length body)) (rooms .overlay) (rooms .output),
+      )
+      ≡ actedIn session rooms Normal body
+  unfolding actedIn
+  acts-normal = ap (come-to (listed done)) (sym (back-normal session rooms within body))
+
+  -- an overlay row
+  pub acts-overlay :
+      come-to (listed done) (
+        withCounts session (session .table) (session .normal) (length body),
+        roomsOf (rooms .store) (rooms .table) (rooms .normal) (paste (rooms .overlay) 0 body (length body)) (rooms .output),
+      )
+      ≡ actedIn session rooms Overlay body
+  unfolding actedIn
+  acts-overlay = ap (come-to (listed done)) (sym (back-overlay session rooms within body))
+
+  -- what a line left in the output is in the rooms
+  abbrev shown : (Session × List ℕ) × Outcome Numbered Came → Result
+  shown left = ((left .0 .0, roomsOf (rooms .store) (rooms .table) (rooms .normal) (rooms .overlay) (left .0 .1)), left .1)
+
+  -- a line
+  pub acts-line : (y : ℕ) {left : (Session × List ℕ) × Outcome Numbered Came}
+      → let held = heldIn session rooms in
+      let after = drawn (session .state) y (lentOf (rooms .store) (held .table) (held .normal) (held .overlay)) (rooms .output) in
+      left ≡ askedIn session (line y (controlsOf (session .state .control) .width)) after
+      → shown left ≡ actedIn session rooms (Line y) body
+  unfolding actedIn
+  acts-line y is =
+      let held = heldIn session rooms in
+      let after = drawn (session .state) y (lentOf (rooms .store) (held .table) (held .normal) (held .overlay)) (rooms .output) in
+      ap shown is
+      ∙ ap (come-to (listed (entryOf (line y (controlsOf (session .state .control) .width)) (after .1))))
+      (sym (back-line session rooms within (after .0 .0, rooms .store) (after .0 .1)))

@@ -1,0 +1,106 @@
+-- What is held, put back into the rooms that it came from. Assumes nothing.
+use Prim.Native.Nat.{ℕ, _+_, _≤_}
+use mathlib.Core.Path.{_≡_, refl, sym, ap, ap₂, _∙_}
+use mathlib.Core.List.{List, [], _++_}
+use native.Mathlib.Nat.{zero-add}
+use lib.ListN.{length, take, drop, length-append, take-append-drop}
+use lib.Seq.{paste, length-take-le, take-length}
+use Rattle.chip.specs.Call.{Chip}
+use Rattle.session.specs.Held.{withChip, withTable, withNormal, withOverlay, withLine}
+use Rattle.session.specs.Lent.{Rooms, roomsOf, heldIn, laid, leftIn}
+use Rattle.session.specs.Inner.{withState, withCounts, Within}
+use Rattle.session.specs.declared.session.Session.{Session}
+
+-- bytes of a room at its front change nothing
+laid-same : (room : List ℕ) (count : ℕ) → count ≤ length room → laid room (take count room) ≡ room
+laid-same room count within =
+    ap (λ (past : ℕ). take count room ++ drop past room) (length-take-le count room within) ∙ take-append-drop count room
+
+-- so many bytes and others behind them
+count-behind : (room bytes : List ℕ) (count : ℕ) → count ≤ length room → length (take count room ++ bytes) ≡ count + length bytes
+count-behind room bytes count within =
+    length-append (take count room) bytes ∙ ap (λ (front : ℕ). front + length bytes) (length-take-le count room within)
+
+-- a copy of bytes behind those that are there
+laid-behind : (room bytes : List ℕ) (count : ℕ) → count ≤ length room
+    → laid room (take count room ++ bytes) ≡ paste room count bytes (length bytes)
+laid-behind room bytes count within =
+    ap (λ (past : ℕ). (take count room ++ bytes) ++ drop past room) (count-behind room bytes count within)
+    ∙ ap (λ (copied : List ℕ). (take count room ++ copied) ++ drop (count + length bytes) room) (sym (take-length bytes))
+
+-- a copy of bytes in place of those that are there
+laid-anew : (room bytes : List ℕ) → laid room bytes ≡ paste room 0 bytes (length bytes)
+laid-anew room bytes =
+    ap₂ (λ (copied : List ℕ) (past : ℕ). copied ++ drop past room) (sym (take-length bytes)) (sym (zero-add (length bytes)))
+
+module _ (session : Session) (rooms : Rooms) (within : Within session rooms) where
+  -- what is held of table and rows, put back as it was
+  table-back : laid (rooms .table) (take (session .table) (rooms .table)) ≡ rooms .table
+  table-back = laid-same (rooms .table) (session .table) (within .table-within)
+
+  normal-back : laid (rooms .normal) (take (session .normal) (rooms .normal)) ≡ rooms .normal
+  normal-back = laid-same (rooms .normal) (session .normal) (within .normal-within)
+
+  overlay-back : laid (rooms .overlay) (take (session .overlay) (rooms .overlay)) ≡ rooms .overlay
+  overlay-back = laid-same (rooms .overlay) (session .overlay) (within .overlay-within)
+
+  -- and counted
+  pub table-count : length (take (session .table) (rooms .table)) ≡ session .table
+  table-count = length-take-le (session .table) (rooms .table) (within .table-within)
+
+  normal-count : length (take (session .normal) (rooms .normal)) ≡ session .normal
+  normal-count = length-take-le (session .normal) (rooms .normal) (within .normal-within)
+
+  overlay-count : length (take (session .overlay) (rooms .overlay)) ≡ session .overlay
+  overlay-count = length-take-le (session .overlay) (rooms .overlay) (within .overlay-within)
+
+  -- all as it was
+  pub back : leftIn rooms (heldIn session rooms) ≡ (session, rooms)
+  back = rw (table-back, normal-back, overlay-back, table-count, normal-count, overlay-count) refl
+
+  -- with another chip
+  pub back-chip : (chip : Chip)
+      → leftIn rooms (withChip (heldIn session rooms) chip)
+      ≡ (withState session (chip .0), roomsOf (chip .1) (rooms .table) (rooms .normal) (rooms .overlay) (rooms .output))
+  back-chip chip = rw (table-back, normal-back, overlay-back, table-count, normal-count, overlay-count) refl
+
+  -- with another output
+  pub back-line : (chip : Chip) (output : List ℕ)
+      → leftIn rooms (withLine (heldIn session rooms) chip output)
+      ≡ (withState session (chip .0), roomsOf (chip .1) (rooms .table) (rooms .normal) (rooms .overlay) output)
+  back-line chip output = rw (table-back, normal-back, overlay-back, table-count, normal-count, overlay-count) refl
+
+  -- with table bytes appended
+  pub back-table : (bytes : List ℕ)
+      → leftIn rooms (withTable (heldIn session rooms) (take (session .table) (rooms .table) ++ bytes))
+      ≡ (
+        withCounts session (session .table + length bytes) (session .normal) (session .overlay),
+        roomsOf (rooms .store) (paste (rooms .table) (session .table) bytes (length bytes)) (rooms .normal) (rooms .overlay) (rooms .output),
+      )
+  back-table bytes =
+      rw (
+        laid-behind (rooms .table) bytes (session .table) (within .table-within),
+        count-behind (rooms .table) bytes (session .table) (within .table-within),
+        normal-back,
+        overlay-back,
+        normal-count,
+        overlay-count,
+      ) refl
+
+  -- with the normal row replaced
+  pub back-normal : (bytes : List ℕ)
+      → leftIn rooms (withNormal (heldIn session rooms) bytes)
+      ≡ (
+        withCounts session (session .table) (length bytes) (session .overlay),
+        roomsOf (rooms .store) (rooms .table) (paste (rooms .normal) 0 bytes (length bytes)) (rooms .overlay) (rooms .output),
+      )
+  back-normal bytes = rw (laid-anew (rooms .normal) bytes, table-back, overlay-back, table-count, overlay-count) refl
+
+  -- with the overlay row replaced
+  pub back-overlay : (bytes : List ℕ)
+      → leftIn rooms (withOverlay (heldIn session rooms) bytes)
+      ≡ (
+        withCounts session (session .table) (session .normal) (length bytes),
+        roomsOf (rooms .store) (rooms .table) (rooms .normal) (paste (rooms .overlay) 0 bytes (length bytes)) (rooms .output),
+      )
+  back-overlay bytes = rw (laid-anew (rooms .overlay) bytes, table-back, normal-back, table-count, normal-count) refl

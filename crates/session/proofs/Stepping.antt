@@ -1,0 +1,183 @@
+-- What a step comes to, by its first test and by what it finds. Assumes nothing.
+use Prim.Native.Nat.{ℕ, _+_, _-_, _≤_}
+use mathlib.Core.Path.{_≡_, refl, sym, ap, ap₂, subst, _∙_}
+use mathlib.Core.Bool.{Bool, false, not, _||_}
+use mathlib.Core.List.{List}
+use native.Mathlib.Nat.{add-zero}
+use native.Mathlib.Omega.{arith}
+use borrow.Author.Tests.{eqb-true, ltb-false, not-false}
+use lib.Dec.{eqb, ltb}
+use lib.ListN.{length, take, drop, length-drop}
+use lib.Seq.{length-take-le, drop-drop}
+use Rattle.rules.specs.Rule.{Outcome, ok, refused}
+use Rattle.rules.specs.Faults.{Numbered, unless}
+use Rattle.rules.specs.Checked.{verdict}
+use Rattle.rules.proofs.Faults.{none-holds, first-holds}
+use Rattle.rules.proofs.Checked.{first-verdict, clear-verdict}
+use Rattle.refusals.specs.Refusal.{numbered}
+use Rattle.refusals.specs.declared.Refusal.{Refusal}
+use Rattle.records.specs.Parts.{lengthOf, bodyOf}
+use Rattle.records.specs.Found.{found}
+use Rattle.records.specs.declared.record.Record.{Record}
+use Rattle.records.specs.declared.record.Record.the-variants.{End, Write, Dots, Table, Normal, Overlay, Line}
+use Rattle.records.specs.declared.record.Context.{Context}
+use Rattle.records.specs.declared.record.Found.{Found}
+use Rattle.records.specs.declared.record.Found.the-variants.{Is, More, Refused}
+use Rattle.records.proofs.Tests.{neither}
+use Rattle.records.proofs.Accepted.{Accepted, found-accepted}
+use Rattle.records.proofs.Limits.{numbered-below, table-fits, normal-fits, overlay-fits}
+use Rattle.session.specs.Held.{Held}
+use Rattle.session.specs.Record.{Came, waits, stopped, cameBy, contextOf, stepped}
+use Rattle.session.specs.Lent.{Rooms, heldIn, leftIn}
+use Rattle.session.specs.Step.{tableRoom, normalRoom, overlayRoom, tooMuchHeld, roomFaults, stepFaults, Left, afterStep, sessionStep}
+use Rattle.session.specs.Inner.{Within, Fits, actedIn}
+use Rattle.session.specs.declared.session.Session.{Session}
+use Rattle.session.proofs.Rooms.{table-count, back}
+
+-- what a step that may go on is lent
+pub record Fitted (session : Session) (rooms : Rooms) : Type 0 where
+  pub table-held : session .table ≤ tableRoom
+  pub normal-held : session .normal ≤ normalRoom
+  pub overlay-held : session .overlay ≤ overlayRoom
+  pub table-long : length (rooms .table) ≡ tableRoom
+  pub normal-long : length (rooms .normal) ≡ normalRoom
+  pub overlay-long : length (rooms .overlay) ≡ overlayRoom
+
+-- a room of no other length has this one
+right-room : (size count : ℕ) → not (eqb size count) ≡ false → size ≡ count
+right-room size count e = eqb-true size count (not-false (eqb size count) e)
+
+module _ (session : Session) (rooms : Rooms) where
+  -- the first test passed
+  pub fitted : verdict (stepFaults session rooms) ≡ ok tt → Fitted session rooms
+  unfolding roomFaults tooMuchHeld
+  fitted e =
+      let clear = clear-verdict (stepFaults session rooms) e in
+      let rows = neither (ltb tableRoom (session .table) || ltb normalRoom (session .normal)) (ltb overlayRoom (session .overlay)) (clear .0) in
+      let first = neither (ltb tableRoom (session .table)) (ltb normalRoom (session .normal)) (rows .0) in
+      record {
+        table-held = ltb-false tableRoom (session .table) (first .0);
+        normal-held = ltb-false normalRoom (session .normal) (first .1);
+        overlay-held = ltb-false overlayRoom (session .overlay) (rows .1);
+        table-long = right-room _ _ (clear .1 .1 .0);
+        normal-long = right-room _ _ (clear .1 .1 .1 .0);
+        overlay-long = right-room _ _ (clear .1 .1 .1 .1 .0);
+      }
+
+-- the bytes of a record that is all there end within the lent ones
+pub ends-within : (bytes : List ℕ) (place count : ℕ) → 3 + count ≤ length (drop place bytes) → place + 3 + count ≤ length bytes
+ends-within bytes place count there = omega (arith, length-drop place bytes)
+
+-- the part that is lent as a record's body is its body
+pub body-part : (bytes : List ℕ) (place count : ℕ) → count ≡ lengthOf (drop place bytes)
+    → take (place + 3 + count - (place + 3)) (drop (place + 3) bytes) ≡ bodyOf (drop place bytes)
+body-part bytes place count is =
+    let long : place + 3 + count - (place + 3) ≡ lengthOf (drop place bytes) = omega arith in
+    ap₂ (λ (size : ℕ) (rest : List ℕ). take size rest) long (sym (drop-drop 3 place bytes))
+
+-- what is held lies within the rooms
+pub within : {session : Session} {rooms : Rooms} → Fitted session rooms → Within session rooms
+within fit =
+    record {
+      table-within = rw (fit .table-long) (fit .table-held);
+      normal-within = rw (fit .normal-long) (fit .normal-held);
+      overlay-within = rw (fit .overlay-long) (fit .overlay-held);
+    }
+
+-- and as long as it says
+pub body-long : (bytes : List ℕ) (place count : ℕ) → 3 + count ≤ length (drop place bytes)
+    → length (take (place + 3 + count - (place + 3)) (drop (place + 3) bytes)) ≡ count
+body-long bytes place count there =
+    let long : place + 3 + count - (place + 3) ≡ count = omega arith in
+    ap (λ (size : ℕ). length (take size (drop (place + 3) bytes))) long
+    ∙ length-take-le count (drop (place + 3) bytes) (omega (arith, length-drop place bytes, length-drop (place + 3) bytes))
+
+module _ (session : Session) (rooms : Rooms) (last : Bool) where
+  -- what the record is judged by, as the code puts it together
+  abbrev pub judgedBy : Context
+  judgedBy = record { number = session .records; table = session .table; last = last }
+
+  module _ (fit : Fitted session rooms) (unread : List ℕ) where
+    -- there is room for the body of each record
+    pub fits : (which : Record) (count : ℕ) (body : List ℕ) → found judgedBy unread ≡ Is which count → length body ≡ count → Fits session rooms which body
+    fits End count body is long = tt
+    fits (Write address value) count body is long = tt
+    fits (Dots dots) count body is long = tt
+    fits Table count body is long = rw (long, fit .table-long) (table-fits judgedBy unread is)
+    fits Normal count body is long = rw (long, fit .normal-long) (normal-fits judgedBy unread is)
+    fits Overlay count body is long = rw (long, fit .overlay-long) (overlay-fits judgedBy unread is)
+    fits (Line y) count body is long = tt
+
+module _ (session : Session) (rooms : Rooms) (bytes : List ℕ) (place : ℕ) (last : Bool) where
+  -- all as it was
+  abbrev before : Left
+  before = ((session, place), rooms)
+
+  -- the first test refuses
+  pub step-refused : (refusal : Refusal) → refused (numbered refusal) ≡ verdict (stepFaults session rooms)
+      → (before, refused (numbered refusal)) ≡ sessionStep session rooms bytes place last
+  unfolding sessionStep
+  step-refused refusal e =
+      sym (first-holds before (afterStep session rooms bytes place last) (stepFaults session rooms) (numbered refusal)
+      (first-verdict (stepFaults session rooms) (numbered refusal) (sym e)))
+
+  -- the first test passed
+  step-done : verdict (stepFaults session rooms) ≡ ok tt
+      → let after = afterStep session rooms bytes place last in
+      sessionStep session rooms bytes place last ≡ (after .0, ok (after .1))
+  unfolding sessionStep
+  step-done e = none-holds before (afterStep session rooms bytes place last) (stepFaults session rooms) (clear-verdict (stepFaults session rooms) e)
+
+  -- what is left after so many bytes
+  abbrev left-after : ℕ → Session × Rooms → Left
+  left-after taken left = ((left .0, place + taken), left .1)
+
+  -- what was found by the code's context was found by the session's
+  same-found : Within session rooms → found (contextOf (heldIn session rooms) last) (drop place bytes) ≡ found (judgedBy session rooms last) (drop place bytes)
+  same-found inside =
+      ap (λ (table : ℕ). found (record { number = session .records; table = table; last = last }) (drop place bytes)) (table-count session rooms inside)
+
+  -- what comes of what was found
+  came : (answer : Found) → Within session rooms → found (judgedBy session rooms last) (drop place bytes) ≡ answer
+      → stepped last (heldIn session rooms) (drop place bytes) ≡ cameBy (heldIn session rooms) (drop place bytes) answer
+  unfolding stepped
+  came answer inside is = ap (cameBy (heldIn session rooms) (drop place bytes)) (same-found inside ∙ is)
+
+  -- nothing is taken and all is as it was
+  nothing-taken : Within session rooms → left-after 0 (leftIn rooms (heldIn session rooms)) ≡ before
+  nothing-taken inside =
+      ap (left-after 0) (back session rooms inside)
+      ∙ ap (λ (next : ℕ). ((session, next), rooms)) (add-zero place)
+
+  -- what a step leaves and answers, by what it comes to
+  abbrev left-by : (Held × ℕ) × Came → Left × Outcome Numbered Came
+  left-by step = (left-after (step .0 .1) (leftIn rooms (step .0 .0)), ok (step .1))
+
+  module _ (passed : verdict (stepFaults session rooms) ≡ ok tt) where
+    -- what it found decides
+    step-by : (answer : Found) → found (judgedBy session rooms last) (drop place bytes) ≡ answer
+        → sessionStep session rooms bytes place last ≡ left-by (cameBy (heldIn session rooms) (drop place bytes) answer)
+    unfolding afterStep
+    step-by answer is = step-done passed ∙ ap left-by (came answer (within (fitted session rooms passed)) is)
+
+    -- the bytes end within a record, and the file goes on
+    pub step-waits : found (judgedBy session rooms last) (drop place bytes) ≡ More → (before, ok waits) ≡ sessionStep session rooms bytes place last
+    step-waits is =
+        sym (step-by More is ∙ ap (λ (left : Left). (left, ok waits)) (nothing-taken (within (fitted session rooms passed))))
+
+    -- a fault of the file
+    pub step-stops : (refusal : Refusal) → found (judgedBy session rooms last) (drop place bytes) ≡ Refused refusal
+        → (before, ok (stopped (numbered refusal))) ≡ sessionStep session rooms bytes place last
+    step-stops refusal is =
+        sym
+        (step-by (Refused refusal) is
+        ∙ ap (λ (left : Left). (left, ok (stopped (numbered refusal)))) (nothing-taken (within (fitted session rooms passed))))
+
+    -- a record
+    pub step-acts : (which : Record) (count : ℕ) → found (judgedBy session rooms last) (drop place bytes) ≡ Is which count
+        → {left : (Session × Rooms) × Outcome Numbered Came} → left ≡ actedIn session rooms which (bodyOf (drop place bytes))
+        → (left-after (3 + count) (left .0), left .1) ≡ sessionStep session rooms bytes place last
+    unfolding actedIn
+    step-acts which count is left-is =
+        ap (λ (left : (Session × Rooms) × Outcome Numbered Came). (left-after (3 + count) (left .0), left .1)) left-is
+        ∙ sym (step-by (Is which count) is)

@@ -1,0 +1,27 @@
+-- `session::acts::entry_of_write` meets its contract, case by case. Assumes nothing.
+use mathlib.Core.Path.{ap, sym}
+use Rattle.chip.specs.Write.{told}
+use Rattle.chip.specs.declared.write.Answer.{Answer}
+use Rattle.session.specs.Record.{entryOf, atPosition}
+use Rattle.listing.specs.Text.{line}
+use Rattle.listing.specs.Text.{ok as done}
+use borrow.Author.Needs.{needs}
+use Rattle.session.proofs.acts.entry_of_write.Statement.{statement}
+use Rattle.session.proofs.acts.entry_of_write.Tie as tie
+use Rattle.session.proofs.acts.entry_of_write.Reads as reads
+use Rattle.session.proofs.acts.entry_of_write.Lts as lts
+
+enum-told : tie.Need-enum-told
+enum-told c = search needs
+
+enum-known-answer : tie.Need-enum-known-answer
+enum-known-answer c = search needs
+
+returns : tie.Need-returns
+returns c = ap (λ (answer : Answer). entryOf done (told answer)) (sym (c .enum-told .given .1))
+
+returns-2 : tie.Need-returns-2
+returns-2 c = ap (λ (answer : Answer). entryOf done (told answer)) (sym (c .before .answer .given .1))
+
+pub entry-of-write-spec : {M : Type 1} → statement M
+entry-of-write-spec = tie.close (tie.spec enum-told enum-known-answer returns returns-2)

@@ -1,0 +1,44 @@
+-- `session::session::Session::dots` meets its contract: what the chip left and answered. Assumes nothing.
+use denote.Ref.{now}
+use mathlib.Core.Path.{ap, _∙_}
+use Rattle.rules.specs.Rule.{Outcome}
+use Rattle.rules.specs.Faults.{Numbered}
+use Rattle.chip.specs.Call.{Chip}
+use Rattle.chip.specs.declared.dots.Report.{Report}
+use Rattle.session.specs.Record.{entryOf, atPosition}
+use Rattle.chip.specs.Dots.{told, ran}
+use Rattle.session.proofs.Asked.{asked-by}
+use borrow.Author.Needs.{needs}
+use Rattle.session.proofs.session.Session.dots.Statement.{statement}
+use Rattle.session.proofs.session.Session.dots.Tie as tie
+use Rattle.session.proofs.session.Session.dots.Reads as reads
+use Rattle.session.proofs.session.Session.dots.Lts as lts
+use Rattle.chip.proofs.state.State.dots.Reads as dots-reads
+use Rattle.session.proofs.acts.entry_of_dots.Reads as entry-of-dots-reads
+use Rattle.session.proofs.session.Session.with_state.Reads as with-state-reads
+
+dots-requires : tie.Need-dots-requires
+dots-requires c κs = search needs
+
+with-state-requires : tie.Need-with-state-requires
+with-state-requires c κs = search needs
+
+entry-of-dots-requires : tie.Need-entry-of-dots-requires
+entry-of-dots-requires c κs = search needs
+
+same-length : tie.Need-same-length
+same-length c = search needs
+
+returns : tie.Need-returns
+returns c =
+    let call = c .before .before .before .before .before .before in
+    let given = call .before .before .before .before .args in
+    let after = ran (given .self .state, now (given .store)) (given .count) in
+    asked-by (given .self) (atPosition (after .0 .0 .at)) (call .dots .result .state) (call .dots .last .1 .0) (told (call .dots .result .answer)) after
+    (c .before .with-state .ensures) (call .dots .ensures)
+    (c .entry-of-dots .ensures ∙ ap (λ (left : Chip × Outcome Numbered Report). entryOf (atPosition (left .0 .0 .at)) (told (call .dots .result .answer))) (call .dots .ensures))
+
+pub dots-spec : {M : Type 1} → statement M
+dots-spec =
+    tie.close
+    (tie.spec dots-requires with-state-requires entry-of-dots-requires same-length returns)

@@ -1,0 +1,94 @@
+-- `session::session::Session::line` meets its contract: the line of what is held. Assumes nothing.
+use Prim.Native.Nat.{ℕ}
+use native.Mathlib.Nat.{sub-zero}
+use denote.Ref.{now}
+use lib.ListN.{length, take}
+use mathlib.Core.Path.{ap, _∙_}
+use Rattle.listing.specs.Text.{line}
+use Rattle.line.specs.Controls.{controlsOf}
+use Rattle.line.specs.Cells.{lentOf}
+use Rattle.line.specs.Drawn.{told, drawn}
+use Rattle.session.specs.Record.{entryOf}
+use Rattle.session.proofs.Asked.{asked-by}
+use borrow.Author.Needs.{needs}
+use Rattle.session.proofs.session.Session.line.Statement.{statement}
+use Rattle.session.proofs.session.Session.line.Tie as tie
+use Rattle.session.proofs.session.Session.line.Reads as reads
+use Rattle.session.proofs.session.Session.line.Lts as lts
+use Rattle.line.proofs.draw.draw.Reads as draw-reads
+use Rattle.session.proofs.acts.entry_of_line.Reads as entry-of-line-reads
+use Rattle.session.proofs.acts.width.Reads as width-reads
+use Rattle.session.proofs.session.Session.with_state.Reads as with-state-reads
+
+sub-draw : tie.Need-sub-draw
+sub-draw c = search needs
+
+part-draw-start : tie.Need-part-draw-start
+part-draw-start c = search needs
+
+part-draw-end : tie.Need-part-draw-end
+part-draw-end c = search needs
+
+sub-draw-2 : tie.Need-sub-draw-2
+sub-draw-2 c = search needs
+
+part-draw-start-2 : tie.Need-part-draw-start-2
+part-draw-start-2 c = search needs
+
+part-draw-end-2 : tie.Need-part-draw-end-2
+part-draw-end-2 c = search needs
+
+sub-draw-3 : tie.Need-sub-draw-3
+sub-draw-3 c = search needs
+
+part-draw-start-3 : tie.Need-part-draw-start-3
+part-draw-start-3 c = search needs
+
+part-draw-end-3 : tie.Need-part-draw-end-3
+part-draw-end-3 c = search needs
+
+draw-requires : tie.Need-draw-requires
+draw-requires c κs = search needs
+
+with-state-requires : tie.Need-with-state-requires
+with-state-requires c κs = search needs
+
+width-requires : tie.Need-width-requires
+width-requires c κs = search needs
+
+entry-of-line-requires : tie.Need-entry-of-line-requires
+entry-of-line-requires c κs = search needs
+
+same-length : tie.Need-same-length
+same-length c = search needs
+
+returns : tie.Need-returns
+returns c =
+    let call = c .before .before .before .before .before .before in
+    let given = call .before .before .before .before .before .before .before .before .before .before .before .args in
+    let held = given .self in
+    let after = drawn (held .state) (given .y) (lentOf (now (given .store)) (take (held .table) (now (given .table))) (take (held .normal) (now (given .normal))) (take (held .overlay) (now (given .overlay)))) (now (given .output)) in
+    asked-by held (line (given .y) (controlsOf (held .state .control) .width)) (call .draw .result .state) (call .draw .last .1 .1 .1 .1 .1 .1 .0) (told (call .draw .result .answer)) after
+    (c .before .before .with-state .ensures)
+    (rw (sub-zero (held .table), sub-zero (held .normal), sub-zero (held .overlay)) at (call .draw .ensures))
+    (c .entry-of-line .ensures ∙ ap (λ (width : ℕ). entryOf (line (given .y) width) (told (call .draw .result .answer))) (c .before .width .ensures))
+
+pub line-spec : {M : Type 1} → statement M
+line-spec =
+    tie.close
+    (tie.spec
+    sub-draw
+    part-draw-start
+    part-draw-end
+    sub-draw-2
+    part-draw-start-2
+    part-draw-end-2
+    sub-draw-3
+    part-draw-start-3
+    part-draw-end-3
+    draw-requires
+    with-state-requires
+    width-requires
+    entry-of-line-requires
+    same-length
+    returns)

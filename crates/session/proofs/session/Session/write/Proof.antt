@@ -1,0 +1,37 @@
+-- `session::session::Session::write` meets its contract: what the chip left and answered. Assumes nothing.
+use denote.Ref.{now}
+use Rattle.chip.specs.Write.{told, written}
+use Rattle.listing.specs.Text.{ok as done}
+use Rattle.session.proofs.Asked.{asked-by}
+use borrow.Author.Needs.{needs}
+use Rattle.session.proofs.session.Session.write.Statement.{statement}
+use Rattle.session.proofs.session.Session.write.Tie as tie
+use Rattle.session.proofs.session.Session.write.Reads as reads
+use Rattle.session.proofs.session.Session.write.Lts as lts
+use Rattle.chip.proofs.state.State.write.Reads as write-reads
+use Rattle.session.proofs.acts.entry_of_write.Reads as entry-of-write-reads
+use Rattle.session.proofs.session.Session.with_state.Reads as with-state-reads
+
+write-requires : tie.Need-write-requires
+write-requires c κs = search needs
+
+with-state-requires : tie.Need-with-state-requires
+with-state-requires c κs = search needs
+
+entry-of-write-requires : tie.Need-entry-of-write-requires
+entry-of-write-requires c κs = search needs
+
+same-length : tie.Need-same-length
+same-length c = search needs
+
+returns : tie.Need-returns
+returns c =
+    let call = c .before .before .before .before .before in
+    let given = call .before .before .before .before .args in
+    asked-by (given .self) done (call .write .result .state) (call .write .last .1 .0) (told (call .write .result .answer)) (written (given .self .state, now (given .store)) (given .address) (given .value))
+    (c .before .with-state .ensures) (call .write .ensures) (c .entry-of-write .ensures)
+
+pub write-spec : {M : Type 1} → statement M
+write-spec =
+    tie.close
+    (tie.spec write-requires with-state-requires entry-of-write-requires same-length returns)

@@ -1,0 +1,71 @@
+-- What the functions inside ask and say.
+use Prim.Native.Nat.{ℕ, _+_, _≤_, _<_}
+use mathlib.Core.Path.{_≡_}
+use mathlib.Core.List.{List}
+use lib.ListN.{length}
+use Rattle.rules.specs.Rule.{Outcome, ok, refused}
+use Rattle.rules.specs.Faults.{Numbered}
+use Rattle.refusals.specs.Refusal.{numbered}
+use Rattle.chip.specs.Call.{Chip}
+use Rattle.chip.specs.declared.state.State.{State}
+use Rattle.chip.specs.declared.state.Fit.{Fit}
+use Rattle.chip.specs.declared.state.Fit.the-variants.{Yes, Refused}
+use Rattle.records.specs.declared.record.Record.{Record}
+use Rattle.records.specs.declared.record.Record.the-variants.{End, Write, Dots, Table, Normal, Overlay, Line}
+use Rattle.listing.specs.Text.{Listed}
+use Rattle.session.specs.Record.{Came, listed, entryOf, acted}
+use Rattle.session.specs.Lent.{Rooms, heldIn, leftIn}
+use Rattle.session.specs.declared.session.Session.{Session}
+
+-- after a record, with this state
+abbrev pub withState : Session → State → Session
+withState session state =
+    record {
+      state = state;
+      table = session .table;
+      normal = session .normal;
+      overlay = session .overlay;
+      records = session .records + 1;
+    }
+
+-- after a record, with so many bytes of table and rows
+abbrev pub withCounts : Session → ℕ → ℕ → ℕ → Session
+withCounts session table normal overlay =
+    record {
+      state = session .state;
+      table = table;
+      normal = normal;
+      overlay = overlay;
+      records = session .records + 1;
+    }
+
+-- after a record that asked the chip: what a call left and answered becomes the session's, with this entry where it is done
+abbrev pub askedIn : {A : Type 0} → Session → Listed → Chip × Outcome Numbered A → (Session × List ℕ) × Outcome Numbered Came
+askedIn session entry after = ((withState session (after .0 .0), after .0 .1), ok (listed (entryOf entry (after .1))))
+
+-- what is held lies within the rooms
+pub record Within (session : Session) (rooms : Rooms) : Type 0 where
+  pub table-within : session .table ≤ length (rooms .table)
+  pub normal-within : session .normal ≤ length (rooms .normal)
+  pub overlay-within : session .overlay ≤ length (rooms .overlay)
+
+-- there is room for a record's body
+abbrev pub Fits : Session → Rooms → Record → List ℕ → Type 0
+Fits session rooms End body = Unit {0}
+Fits session rooms (Write address value) body = Unit {0}
+Fits session rooms (Dots count) body = Unit {0}
+Fits session rooms Table body = session .table + length body ≤ length (rooms .table)
+Fits session rooms Normal body = length body ≤ length (rooms .normal)
+Fits session rooms Overlay body = length body ≤ length (rooms .overlay)
+Fits session rooms (Line y) body = Unit {0}
+
+-- what a record with this body leaves, and what it comes to
+unfoldable pub actedIn : Session → Rooms → Record → List ℕ → (Session × Rooms) × Outcome Numbered Came
+actedIn session rooms which body =
+    let after = acted (heldIn session rooms) which body in
+    (leftIn rooms (after .0), ok (after .1))
+
+-- whether a step may go on, or a refusal's number and values
+abbrev pub fitTold : Fit → Outcome Numbered (Unit {0})
+fitTold Yes = ok tt
+fitTold (Refused refusal) = refused (numbered refusal)

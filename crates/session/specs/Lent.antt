@@ -1,0 +1,67 @@
+-- What a session holds, in lent memory.
+use Prim.Native.Nat.{ℕ}
+use mathlib.Core.List.{List, _++_}
+use lib.ListN.{length, take, drop}
+use Rattle.session.specs.Held.{Held}
+use Rattle.session.specs.declared.session.Session.{Session}
+
+-- the lent store, table, rows and output
+pub record Rooms : Type 0 where
+  pub store : List ℕ
+  pub table : List ℕ
+  pub normal : List ℕ
+  pub overlay : List ℕ
+  pub output : List ℕ
+
+-- the five of them as one
+abbrev pub roomsOf : List ℕ → List ℕ → List ℕ → List ℕ → List ℕ → Rooms
+roomsOf store table normal overlay output =
+    record {
+      store = store;
+      table = table;
+      normal = normal;
+      overlay = overlay;
+      output = output;
+    }
+
+-- what is held: of table and rows the bytes that are there
+abbrev pub heldIn : Session → Rooms → Held
+heldIn session rooms =
+    record {
+      chip = (session .state, rooms .store);
+      table = take (session .table) (rooms .table);
+      normal = take (session .normal) (rooms .normal);
+      overlay = take (session .overlay) (rooms .overlay);
+      output = rooms .output;
+      records = session .records;
+    }
+
+-- some bytes at the front of a room; those past them stay
+abbrev pub laid : List ℕ → List ℕ → List ℕ
+laid room bytes = bytes ++ drop (length bytes) room
+
+-- what is held, put into the rooms
+abbrev pub roomsWith : Rooms → Held → Rooms
+roomsWith rooms held =
+    record {
+      store = held .chip .1;
+      table = laid (rooms .table) (held .table);
+      normal = laid (rooms .normal) (held .normal);
+      overlay = laid (rooms .overlay) (held .overlay);
+      output = held .output;
+    }
+
+-- what is held besides the rooms
+abbrev pub sessionOf : Held → Session
+sessionOf held =
+    record {
+      state = held .chip .0;
+      table = length (held .table);
+      normal = length (held .normal);
+      overlay = length (held .overlay);
+      records = held .records;
+    }
+
+-- the two together
+abbrev pub leftIn : Rooms → Held → Session × Rooms
+leftIn rooms held = (sessionOf held, roomsWith rooms held)

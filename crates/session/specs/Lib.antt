@@ -1,0 +1,6 @@
+pub mod Held
+pub mod Record
+pub mod Listing
+pub mod Lent
+pub mod Step
+pub mod Inner

@@ -1,0 +1,85 @@
+-- What a record does, and what comes of the record at the front of some bytes.
+use Prim.Native.Nat.{ℕ, _+_}
+use mathlib.Core.Bool.{Bool}
+use mathlib.Core.List.{List, _++_}
+use lib.ListN.{length}
+use Rattle.rules.specs.Rule.{Outcome, ok, refused}
+use Rattle.rules.specs.Faults.{Numbered}
+use Rattle.refusals.specs.Refusal.{numbered}
+use Rattle.timing.specs.declared.Position.{Position}
+use Rattle.chip.specs.Call.{Chip}
+use Rattle.chip.specs.Write.{written}
+use Rattle.chip.specs.Dots.{ran}
+use Rattle.chip.specs.declared.state.State.{State}
+use Rattle.chip.specs.declared.dots.Report.{Report}
+use Rattle.records.specs.Parts.{bodyOf}
+use Rattle.records.specs.Found.{found}
+use Rattle.records.specs.declared.record.Record.{Record}
+use Rattle.records.specs.declared.record.Record.the-variants.{End, Write, Dots, Table, Normal, Overlay, Line}
+use Rattle.records.specs.declared.record.Context.{Context}
+use Rattle.records.specs.declared.record.Found.{Found}
+use Rattle.records.specs.declared.record.Found.the-variants.{Is, More, Refused}
+use Rattle.listing.specs.Text.{Listed, at, line}
+use Rattle.listing.specs.Text as text
+use Rattle.line.specs.Controls.{controlsOf}
+use Rattle.line.specs.Cells.{lentOf}
+use Rattle.line.specs.Drawn.{drawn}
+use Rattle.session.specs.Held.{Held, withChip, withTable, withNormal, withOverlay, withLine}
+
+-- what a step comes to: an entry of the listing, the end, a wait for more bytes, or a fault of the file
+pub data Came : Type 0 where
+  listed : Listed → Came
+  ended : Came
+  waits : Came
+  stopped : Numbered → Came
+
+-- the entry of a call: this one where it is done, else its refusal
+abbrev pub entryOf : {A : Type 0} → Listed → Outcome Numbered A → Listed
+entryOf entry (ok answer) = entry
+entryOf entry (refused refusal) = text.refused refusal
+
+-- the entry of dots: the position after them
+abbrev pub atPosition : Position → Listed
+atPosition position = at (position .x) (position .y)
+
+-- a write
+abbrev pub wrote : Held → Chip × Outcome Numbered (Unit {0}) → Held × Came
+wrote held after = (withChip held (after .0), listed (entryOf text.ok (after .1)))
+
+-- some dots
+abbrev pub dotted : Held → Chip × Outcome Numbered Report → Held × Came
+dotted held after = (withChip held (after .0), listed (entryOf (atPosition (after .0 .0 .at)) (after .1)))
+
+-- a line
+abbrev pub drew : Held → ℕ → (State × List ℕ) × Outcome Numbered (Unit {0}) → Held × Came
+drew held y after = (
+  withLine held (after .0 .0, held .chip .1) (after .0 .1),
+  listed (entryOf (line y (controlsOf (held .chip .0 .control) .width)) (after .1)),
+)
+
+-- what a record with this body leaves, and what it comes to. Table bytes are appended, a row is replaced; the end record lists nothing and ends the run
+abbrev pub acted : Held → Record → List ℕ → Held × Came
+acted held End body = (held, ended)
+acted held (Write address value) body = wrote held (written (held .chip) address value)
+acted held (Dots count) body = dotted held (ran (held .chip) count)
+acted held Table body = (withTable held (held .table ++ body), listed text.ok)
+acted held Normal body = (withNormal held body, listed text.ok)
+acted held Overlay body = (withOverlay held body, listed text.ok)
+acted held (Line y) body =
+    drew held y
+    (drawn (held .chip .0) y (lentOf (held .chip .1) (held .table) (held .normal) (held .overlay)) (held .output))
+
+-- what comes of what was found: what is held, how many bytes were taken, and what it comes to. Without a record all is as it was
+abbrev pub cameBy : Held → List ℕ → Found → (Held × ℕ) × Came
+cameBy held bytes (Is which length) =
+    let after = acted held which (bodyOf bytes) in ((after .0, 3 + length), after .1)
+cameBy held bytes More = ((held, 0), waits)
+cameBy held bytes (Refused refusal) = ((held, 0), stopped (numbered refusal))
+
+-- what a record is judged by
+abbrev pub contextOf : Held → Bool → Context
+contextOf held last = record { number = held .records; table = length (held .table); last = last }
+
+-- one step, at bytes with which the file ends or not
+unfoldable pub stepped : Bool → Held → List ℕ → (Held × ℕ) × Came
+stepped last held bytes = cameBy held bytes (found (contextOf held last) bytes)

@@ -1,0 +1,106 @@
+// One record of a session.
+ghost use Prim.Native.Nat.{_+_};
+ghost use mathlib.Core.Path.{_≡_};
+ghost use lib.ListN.{length};
+ghost use Rattle.session.specs.Lent.{roomsOf};
+ghost use Rattle.session.specs.Step.{told, sessionStep};
+use crate::fit::Counts;
+use crate::fit::fit;
+use crate::session::Session;
+use chip::state::Fit;
+use listing::entry::Entry;
+use records::record::Context;
+use records::record::Found;
+use refusals::Refusal;
+
+// What a step answers: a record's entry in the listing, that the end record is reached, that the bytes end within a record and the file goes on, a
+// fault of the file, which stops the run, or the refusal of a call that is lent the wrong things.
+pub enum Answer {
+    Listed(Entry),
+    End,
+    More,
+    Stopped(Refusal),
+    Refused(Refusal),
+}
+
+// The session that a step hands back, the place of the next record, and the answer.
+pub struct Stepped {
+    pub session: Session,
+    pub place: usize,
+    pub answer: Answer,
+}
+
+// The record at a place of the bytes, on the lent store, table, rows and output. `last` says that the file ends with these bytes.
+pub fn step(
+    session: Session,
+    bytes: &[u8],
+    place: usize,
+    last: bool,
+    store: &mut [u32],
+    table: &mut [u8],
+    normal: &mut [u8],
+    overlay: &mut [u8],
+    output: &mut [u32],
+) -> Stepped
+    ensures { λ r. ⌜ (((r .session, r .place), roomsOf (now (store .exit)) (now (table .exit)) (now (normal .exit)) (now (overlay .exit)) (now (output .exit))), told (r .answer)) ≡ sessionStep session (roomsOf (now (store .entry)) (now (table .entry)) (now (normal .entry)) (now (overlay .entry)) (now (output .entry))) (now (bytes .entry)) place last ⌝ }
+{
+    let held = session.table;
+    let counts = Counts {
+        table: held,
+        normal: session.normal,
+        overlay: session.overlay,
+    };
+    let fits = fit(
+        counts,
+        store.len(),
+        table.len(),
+        normal.len(),
+        overlay.len(),
+        output.len(),
+    );
+    if let Fit::Refused(refusal) = fits {
+        return Stepped {
+            session,
+            place,
+            answer: Answer::Refused(refusal),
+        };
+    }
+    let context = Context {
+        number: session.records,
+        table: held,
+        last,
+    };
+    let found = records::reader::read(bytes, place, context);
+    match found {
+        Found::Is { record, length } => {
+            let start = place + 3;
+            let end = start + length;
+            let acted = session.act(
+                record,
+                &bytes[start..end],
+                store,
+                table,
+                normal,
+                overlay,
+                output,
+            );
+            let next = acted.session;
+            let answer = acted.answer;
+            Stepped {
+                session: next,
+                place: end,
+                answer,
+            }
+        }
+        Found::More => Stepped {
+            session,
+            place,
+            answer: Answer::More,
+        },
+        Found::Refused(refusal) => Stepped {
+            session,
+            place,
+            answer: Answer::Stopped(refusal),
+        },
+    }
+}
