@@ -1,2 +1,4 @@
 pub mod Digits
 pub mod Text
+pub mod Room
+pub mod Inner

@@ -1,2 +1,4 @@
 // The listing of a session, as text.
 pub mod entry;
+mod put;
+pub mod render;

@@ -1,0 +1,5 @@
+pub mod Puts
+pub mod Decimal
+pub mod Pixels
+pub mod Texts
+pub mod Rendering

@@ -1,0 +1,27 @@
+-- The room that an entry is granted, and what rendering it leaves and answers.
+use Prim.Native.Nat.{ℕ, _+_, _*_}
+use mathlib.Core.Bool.{cond}
+use mathlib.Core.List.{List, _++_}
+use lib.Dec.{leb}
+use lib.ListN.{length, take, drop}
+use Rattle.listing.specs.Text.{Listed, ok, at, line, refused, text}
+use Rattle.listing.specs.declared.render.Rendered.{Rendered}
+use Rattle.listing.specs.declared.render.Rendered.the-variants.{To, NoRoom}
+
+-- 32 bytes, and for a drawn line 7 more for each pixel shown
+abbrev pub roomFor : Listed → List ℕ → ℕ
+roomFor ok output = 32
+roomFor (at x y) output = 32
+roomFor (line y width) output = 32 + 7 * length (take width output)
+roomFor (refused refusal) output = 32
+
+-- lent bytes with some of them replaced, from a place on
+abbrev pub placed : List ℕ → ℕ → List ℕ → List ℕ
+placed lent place bytes = take place lent ++ bytes ++ drop (place + length bytes) lent
+
+-- where the room is there from a place on, the place after the entry's text, which then stands there; else no room, and the bytes as they were
+abbrev pub rendered : Listed → List ℕ → List ℕ → ℕ → Rendered × List ℕ
+rendered listed output lent place =
+    cond (leb (place + roomFor listed output) (length lent))
+    (To (place + length (text listed output)), placed lent place (text listed output))
+    (NoRoom, lent)
