@@ -7,7 +7,7 @@ use Rattle.rules.specs.Faults.{Numbered}
 use Rattle.chip.specs.Call.{Chip}
 use Rattle.chip.specs.declared.state.State.{State}
 use Rattle.listing.specs.Text.{Listed}
-use Rattle.session.specs.Record.{Came, listed, entryOf}
+use Rattle.session.specs.Record.{listed, entryOf}
 use Rattle.session.specs.Inner.{withState, askedIn}
 use Rattle.session.specs.declared.session.Session.{Session}
 

@@ -6,7 +6,6 @@ use lib.ListN.{length}
 use lib.Seq.{paste}
 use Rattle.rules.specs.Rule.{Outcome, ok}
 use Rattle.rules.specs.Faults.{Numbered}
-use Rattle.chip.specs.Call.{Chip}
 use Rattle.chip.specs.Write.{written}
 use Rattle.chip.specs.Dots.{ran}
 use Rattle.records.specs.declared.record.Record.the-variants.{End, Write, Dots, Table, Normal, Overlay, Line}

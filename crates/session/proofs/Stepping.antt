@@ -1,6 +1,6 @@
 -- What a step comes to, by its first test and by what it finds. Assumes nothing.
 use Prim.Native.Nat.{ℕ, _+_, _-_, _≤_}
-use mathlib.Core.Path.{_≡_, refl, sym, ap, ap₂, subst, _∙_}
+use mathlib.Core.Path.{_≡_, sym, ap, ap₂, _∙_}
 use mathlib.Core.Bool.{Bool, false, not, _||_}
 use mathlib.Core.List.{List}
 use native.Mathlib.Nat.{add-zero}
@@ -10,7 +10,7 @@ use lib.Dec.{eqb, ltb}
 use lib.ListN.{length, take, drop, length-drop}
 use lib.Seq.{length-take-le, drop-drop}
 use Rattle.rules.specs.Rule.{Outcome, ok, refused}
-use Rattle.rules.specs.Faults.{Numbered, unless}
+use Rattle.rules.specs.Faults.{Numbered}
 use Rattle.rules.specs.Checked.{verdict}
 use Rattle.rules.proofs.Faults.{none-holds, first-holds}
 use Rattle.rules.proofs.Checked.{first-verdict, clear-verdict}
@@ -24,8 +24,7 @@ use Rattle.records.specs.declared.record.Context.{Context}
 use Rattle.records.specs.declared.record.Found.{Found}
 use Rattle.records.specs.declared.record.Found.the-variants.{Is, More, Refused}
 use Rattle.records.proofs.Tests.{neither}
-use Rattle.records.proofs.Accepted.{Accepted, found-accepted}
-use Rattle.records.proofs.Limits.{numbered-below, table-fits, normal-fits, overlay-fits}
+use Rattle.records.proofs.Limits.{table-fits, normal-fits, overlay-fits}
 use Rattle.session.specs.Held.{Held}
 use Rattle.session.specs.Record.{Came, waits, stopped, cameBy, contextOf, stepped}
 use Rattle.session.specs.Lent.{Rooms, heldIn, leftIn}

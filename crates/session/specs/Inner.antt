@@ -1,6 +1,5 @@
 -- What the functions inside ask and say.
-use Prim.Native.Nat.{ℕ, _+_, _≤_, _<_}
-use mathlib.Core.Path.{_≡_}
+use Prim.Native.Nat.{ℕ, _+_, _≤_}
 use mathlib.Core.List.{List}
 use lib.ListN.{length}
 use Rattle.rules.specs.Rule.{Outcome, ok, refused}
@@ -16,6 +15,17 @@ use Rattle.listing.specs.Text.{Listed}
 use Rattle.session.specs.Record.{Came, listed, entryOf, acted}
 use Rattle.session.specs.Lent.{Rooms, heldIn, leftIn}
 use Rattle.session.specs.declared.session.Session.{Session}
+
+-- after a record
+abbrev pub counted : Session → Session
+counted session =
+    record {
+      state = session .state;
+      table = session .table;
+      normal = session .normal;
+      overlay = session .overlay;
+      records = session .records + 1;
+    }
 
 -- after a record, with this state
 abbrev pub withState : Session → State → Session

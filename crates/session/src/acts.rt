@@ -15,7 +15,7 @@ ghost use Rattle.line.specs.Drawn.{told as toldOfLine};
 ghost use Rattle.session.specs.Record.{entryOf, atPosition};
 ghost use Rattle.session.specs.Lent.{roomsOf};
 ghost use Rattle.session.specs.Step.{told};
-ghost use Rattle.session.specs.Inner.{withState, withCounts, askedIn, Within, Fits, actedIn};
+ghost use Rattle.session.specs.Inner.{counted, withState, withCounts, askedIn, Within, Fits, actedIn};
 use crate::keep::keep;
 use crate::session::Session;
 use crate::step::Answer;
@@ -71,26 +71,35 @@ fn entry_of_line(answer: line::draw::Answer, y: u32, width: usize) -> Entry
 }
 
 impl Session {
-    // After a record, with this state.
-    fn with_state(mut self, state: State) -> Self
+    // One more record.
+    fn counted(mut self) -> Self
         requires { ⌜ self .records < 1000000 ⌝ }
-        ensures { λ r. ⌜ r ≡ withState self state ⌝ }
+        ensures { λ r. ⌜ r ≡ counted self ⌝ }
     {
-        self.state = state;
         self.records += 1;
         self
     }
 
+    // After a record, with this state.
+    fn with_state(self, state: State) -> Self
+        requires { ⌜ self .records < 1000000 ⌝ }
+        ensures { λ r. ⌜ r ≡ withState self state ⌝ }
+    {
+        let mut next = self.counted();
+        next.state = state;
+        next
+    }
+
     // After a record, with so many bytes of table and rows.
-    fn with_counts(mut self, table: usize, normal: usize, overlay: usize) -> Self
+    fn with_counts(self, table: usize, normal: usize, overlay: usize) -> Self
         requires { ⌜ self .records < 1000000 ⌝ }
         ensures { λ r. ⌜ r ≡ withCounts self table normal overlay ⌝ }
     {
-        self.table = table;
-        self.normal = normal;
-        self.overlay = overlay;
-        self.records += 1;
-        self
+        let mut next = self.counted();
+        next.table = table;
+        next.normal = normal;
+        next.overlay = overlay;
+        next
     }
 
     // A write.

@@ -1,7 +1,7 @@
 -- `refusals::Refusal::place` meets its contract: each case holds its place. Assumes nothing.
 use mathlib.Core.Path.{ap, sym}
-use Rattle.refusals.specs.Refusal.{placeOf}
 use borrow.Author.Needs.{needs}
+use Rattle.refusals.specs.Refusal.{placeOf}
 use Rattle.refusals.proofs.Refusal.place.Statement.{statement}
 use Rattle.refusals.proofs.Refusal.place.Tie as tie
 

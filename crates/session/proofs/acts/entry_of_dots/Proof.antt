@@ -1,15 +1,11 @@
 -- `session::acts::entry_of_dots` meets its contract, case by case. Assumes nothing.
 use mathlib.Core.Path.{ap, sym}
+use borrow.Author.Needs.{needs}
 use Rattle.chip.specs.Dots.{told}
 use Rattle.chip.specs.declared.dots.Answer.{Answer}
 use Rattle.session.specs.Record.{entryOf, atPosition}
-use Rattle.listing.specs.Text.{line}
-use Rattle.listing.specs.Text.{ok as done}
-use borrow.Author.Needs.{needs}
 use Rattle.session.proofs.acts.entry_of_dots.Statement.{statement}
 use Rattle.session.proofs.acts.entry_of_dots.Tie as tie
-use Rattle.session.proofs.acts.entry_of_dots.Reads as reads
-use Rattle.session.proofs.acts.entry_of_dots.Lts as lts
 
 enum-told : tie.Need-enum-told
 enum-told c = search needs

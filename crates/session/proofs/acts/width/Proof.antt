@@ -1,12 +1,9 @@
 -- `session::acts::width` meets its contract. Assumes nothing.
 use mathlib.Core.Path.{ap}
-use Rattle.line.specs.declared.controls.Controls.{Controls}
 use borrow.Author.Needs.{needs}
+use Rattle.line.specs.declared.controls.Controls.{Controls}
 use Rattle.session.proofs.acts.width.Statement.{statement}
 use Rattle.session.proofs.acts.width.Tie as tie
-use Rattle.session.proofs.acts.width.Reads as reads
-use Rattle.session.proofs.acts.width.Lts as lts
-use Rattle.line.proofs.controls.Controls.of.Reads as of-reads
 
 of-requires : tie.Need-of-requires
 of-requires c κs = search needs

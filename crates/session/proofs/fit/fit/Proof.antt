@@ -3,10 +3,6 @@ use mathlib.Core.Path.{refl, sym, _∙_}
 use borrow.Author.Needs.{needs}
 use Rattle.session.proofs.fit.fit.Statement.{statement}
 use Rattle.session.proofs.fit.fit.Tie as tie
-use Rattle.session.proofs.fit.fit.Reads as reads
-use Rattle.session.proofs.fit.fit.Lts as lts
-use Rattle.session.proofs.fit.rooms_fit.Reads as rooms-fit-reads
-use Rattle.session.proofs.fit.too_much_held.Reads as too-much-held-reads
 
 too-much-held-requires : tie.Need-too-much-held-requires
 too-much-held-requires c κs = search needs

@@ -1,11 +1,9 @@
 -- `session::fit::rooms_fit` meets its contract: each length in the order of the places. Assumes nothing.
 use mathlib.Core.Path.{refl}
-use borrow.Author.Tests.{eq-eqb, ne-eqb, lt-ltb, le-ltb}
+use borrow.Author.Tests.{eq-eqb, ne-eqb}
 use Rattle.session.specs.Step.{roomFaults}
 use Rattle.session.proofs.fit.rooms_fit.Statement.{statement}
 use Rattle.session.proofs.fit.rooms_fit.Tie as tie
-use Rattle.session.proofs.fit.rooms_fit.Reads as reads
-use Rattle.session.proofs.fit.rooms_fit.Lts as lts
 
 returns : tie.Need-returns
 unfolding roomFaults

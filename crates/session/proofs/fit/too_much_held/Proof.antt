@@ -1,11 +1,9 @@
 -- `session::fit::too_much_held` meets its contract, test by test. Assumes nothing.
 use mathlib.Core.Path.{refl}
-use borrow.Author.Tests.{eq-eqb, ne-eqb, lt-ltb, le-ltb}
+use borrow.Author.Tests.{lt-ltb, le-ltb}
 use Rattle.session.specs.Step.{tooMuchHeld}
 use Rattle.session.proofs.fit.too_much_held.Statement.{statement}
 use Rattle.session.proofs.fit.too_much_held.Tie as tie
-use Rattle.session.proofs.fit.too_much_held.Reads as reads
-use Rattle.session.proofs.fit.too_much_held.Lts as lts
 
 returns : tie.Need-returns
 unfolding tooMuchHeld

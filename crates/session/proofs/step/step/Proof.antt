@@ -3,27 +3,19 @@ use Prim.Native.Nat.{ℕ}
 use mathlib.Core.Path.{_≡_, sym, ap, subst, _∙_}
 use mathlib.Core.List.{List}
 use native.Mathlib.Nat.{add-assoc}
+use borrow.Author.Needs.{needs}
 use denote.Ref.{now}
-use lib.ListN.{length, drop}
-use Rattle.rules.specs.Rule.{Outcome, ok}
-use Rattle.rules.specs.Faults.{Numbered}
+use lib.ListN.{drop}
 use Rattle.rules.specs.Checked.{verdict}
 use Rattle.chip.specs.declared.state.Fit.{Fit}
 use Rattle.records.proofs.Accepted.{found-accepted}
 use Rattle.records.proofs.Limits.{numbered-below}
-use Rattle.session.specs.Lent.{Rooms, roomsOf}
+use Rattle.session.specs.Lent.{roomsOf}
 use Rattle.session.specs.Step.{stepFaults}
 use Rattle.session.specs.Inner.{fitTold, actedIn}
-use Rattle.session.specs.declared.session.Session.{Session}
 use Rattle.session.proofs.Stepping.{judgedBy, ends-within, body-part, body-long, fitted, within, fits, step-refused, step-waits, step-stops, step-acts}
-use borrow.Author.Needs.{needs}
 use Rattle.session.proofs.step.step.Statement.{statement}
 use Rattle.session.proofs.step.step.Tie as tie
-use Rattle.session.proofs.step.step.Reads as reads
-use Rattle.session.proofs.step.step.Lts as lts
-use Rattle.records.proofs.reader.read.Reads as read-reads
-use Rattle.session.proofs.fit.fit.Reads as fit-reads
-use Rattle.session.proofs.session.Session.act.Reads as act-reads
 
 fit-requires : tie.Need-fit-requires
 fit-requires c κs = search needs

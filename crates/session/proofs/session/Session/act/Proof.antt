@@ -3,6 +3,7 @@ use Prim.Native.Nat.{ℕ}
 use mathlib.Core.Path.{sym, ap, ap₂, subst, _∙_}
 use mathlib.Core.List.{List}
 use native.Mathlib.Nat.{zero-add}
+use borrow.Author.Needs.{needs}
 use denote.Ref.{now}
 use Rattle.rules.specs.Rule.{Outcome, ok}
 use Rattle.rules.specs.Faults.{Numbered}
@@ -13,16 +14,8 @@ use Rattle.session.specs.Lent.{Rooms, roomsOf}
 use Rattle.session.specs.Inner.{Fits, actedIn}
 use Rattle.session.specs.declared.session.Session.{Session}
 use Rattle.session.proofs.Records.{acts-end, acts-write, acts-dots, acts-table, acts-normal, acts-overlay, acts-line}
-use borrow.Author.Needs.{needs}
 use Rattle.session.proofs.session.Session.act.Statement.{statement}
 use Rattle.session.proofs.session.Session.act.Tie as tie
-use Rattle.session.proofs.session.Session.act.Reads as reads
-use Rattle.session.proofs.session.Session.act.Lts as lts
-use Rattle.session.proofs.keep.keep.Reads as keep-reads
-use Rattle.session.proofs.session.Session.dots.Reads as dots-reads
-use Rattle.session.proofs.session.Session.line.Reads as line-reads
-use Rattle.session.proofs.session.Session.with_counts.Reads as with-counts-reads
-use Rattle.session.proofs.session.Session.write.Reads as write-reads
 
 -- bytes that were kept list ok
 abbrev kept-in : Session → Rooms → (Session × Rooms) × Outcome Numbered Came

@@ -1,21 +1,16 @@
 -- `session::session::Session::dots` meets its contract: what the chip left and answered. Assumes nothing.
-use denote.Ref.{now}
 use mathlib.Core.Path.{ap, _∙_}
+use borrow.Author.Needs.{needs}
+use denote.Ref.{now}
 use Rattle.rules.specs.Rule.{Outcome}
 use Rattle.rules.specs.Faults.{Numbered}
 use Rattle.chip.specs.Call.{Chip}
+use Rattle.chip.specs.Dots.{told, ran}
 use Rattle.chip.specs.declared.dots.Report.{Report}
 use Rattle.session.specs.Record.{entryOf, atPosition}
-use Rattle.chip.specs.Dots.{told, ran}
 use Rattle.session.proofs.Asked.{asked-by}
-use borrow.Author.Needs.{needs}
 use Rattle.session.proofs.session.Session.dots.Statement.{statement}
 use Rattle.session.proofs.session.Session.dots.Tie as tie
-use Rattle.session.proofs.session.Session.dots.Reads as reads
-use Rattle.session.proofs.session.Session.dots.Lts as lts
-use Rattle.chip.proofs.state.State.dots.Reads as dots-reads
-use Rattle.session.proofs.acts.entry_of_dots.Reads as entry-of-dots-reads
-use Rattle.session.proofs.session.Session.with_state.Reads as with-state-reads
 
 dots-requires : tie.Need-dots-requires
 dots-requires c κs = search needs

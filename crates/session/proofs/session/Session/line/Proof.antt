@@ -1,24 +1,18 @@
 -- `session::session::Session::line` meets its contract: the line of what is held. Assumes nothing.
 use Prim.Native.Nat.{ℕ}
-use native.Mathlib.Nat.{sub-zero}
-use denote.Ref.{now}
-use lib.ListN.{length, take}
 use mathlib.Core.Path.{ap, _∙_}
+use native.Mathlib.Nat.{sub-zero}
+use borrow.Author.Needs.{needs}
+use denote.Ref.{now}
+use lib.ListN.{take}
 use Rattle.listing.specs.Text.{line}
 use Rattle.line.specs.Controls.{controlsOf}
 use Rattle.line.specs.Cells.{lentOf}
 use Rattle.line.specs.Drawn.{told, drawn}
 use Rattle.session.specs.Record.{entryOf}
 use Rattle.session.proofs.Asked.{asked-by}
-use borrow.Author.Needs.{needs}
 use Rattle.session.proofs.session.Session.line.Statement.{statement}
 use Rattle.session.proofs.session.Session.line.Tie as tie
-use Rattle.session.proofs.session.Session.line.Reads as reads
-use Rattle.session.proofs.session.Session.line.Lts as lts
-use Rattle.line.proofs.draw.draw.Reads as draw-reads
-use Rattle.session.proofs.acts.entry_of_line.Reads as entry-of-line-reads
-use Rattle.session.proofs.acts.width.Reads as width-reads
-use Rattle.session.proofs.session.Session.with_state.Reads as with-state-reads
 
 sub-draw : tie.Need-sub-draw
 sub-draw c = search needs

@@ -1,16 +1,11 @@
 -- `session::session::Session::write` meets its contract: what the chip left and answered. Assumes nothing.
+use borrow.Author.Needs.{needs}
 use denote.Ref.{now}
 use Rattle.chip.specs.Write.{told, written}
 use Rattle.listing.specs.Text.{ok as done}
 use Rattle.session.proofs.Asked.{asked-by}
-use borrow.Author.Needs.{needs}
 use Rattle.session.proofs.session.Session.write.Statement.{statement}
 use Rattle.session.proofs.session.Session.write.Tie as tie
-use Rattle.session.proofs.session.Session.write.Reads as reads
-use Rattle.session.proofs.session.Session.write.Lts as lts
-use Rattle.chip.proofs.state.State.write.Reads as write-reads
-use Rattle.session.proofs.acts.entry_of_write.Reads as entry-of-write-reads
-use Rattle.session.proofs.session.Session.with_state.Reads as with-state-reads
 
 write-requires : tie.Need-write-requires
 write-requires c κs = search needs
