@@ -25,6 +25,7 @@ pub record Accepted (context : Context) (bytes : List ℕ) (is : Record) (count 
   pub there : 3 + count ≤ length bytes
 
 module _ (context : Context) (bytes : List ℕ) where
+  -- by the way in which the bytes are judged
   accepted-by : {is : Record} {count : ℕ} → Judged context bytes → found context bytes ≡ Is is count → Accepted context bytes is count
   accepted-by (faulty w) e = impossible (cc (found-wrong context bytes w))
   accepted-by (waiting w s l) e = impossible (cc (found-more context bytes w s l))
@@ -46,6 +47,7 @@ module _ (context : Context) (bytes : List ℕ) where
   pub found-accepted : {is : Record} {count : ℕ} → found context bytes ≡ Is is count → Accepted context bytes is count
   found-accepted = accepted-by (judged context bytes)
 
+  -- by the way in which the bytes are judged
   more-by : context .last ≡ true → Judged context bytes → found context bytes ≡ More → ⊥
   more-by ends (faulty w) e = impossible (cc (found-wrong context bytes w))
   more-by ends (waiting w s l) e = impossible cc

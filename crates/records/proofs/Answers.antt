@@ -17,30 +17,34 @@ module _ (context : Context) (bytes : List ℕ) where
   found-wrong faulty = rw faulty
 
   module _ (right : wrong bytes ≡ false) where
-    -- where bytes are missing: more, or by the end of the file 14 before 13
     module _ (cut : missing bytes ≡ true) where
+      -- bytes are missing, and the file goes on: more
       pub found-more : context .last ≡ false → found context bytes ≡ More
       unfolding found
       found-more goes-on = rw (right, cut, goes-on)
 
       module _ (ends : context .last ≡ true) where
+        -- bytes are missing, and the file ends at a record that is too much: 14
         pub found-cut-much : tooMuch context bytes ≡ true → found context bytes ≡ Refused (TooMuch (context .number))
         unfolding found
         found-cut-much much = rw (right, much, ends)
 
+        -- bytes are missing, and the file ends: 13
         pub found-cut : tooMuch context bytes ≡ false → found context bytes ≡ Refused (FileEnds (context .number))
         unfolding found
         found-cut few = rw (right, few, cut, ends)
 
-    -- where all of it is there: 14, or the record
     module _ (all : missing bytes ≡ false) where
+      -- what is all there waits for nothing
       waits-not : waits context bytes ≡ false
       waits-not = ap (λ (short : Bool). not (context .last) && short) all ∙ and-false (not (context .last))
 
+      -- all of it is there, and it is too much: 14
       pub found-much : tooMuch context bytes ≡ true → found context bytes ≡ Refused (TooMuch (context .number))
       unfolding found
       found-much much = rw (right, waits-not, much)
 
+      -- all of it is there: the record
       pub found-is : tooMuch context bytes ≡ false → found context bytes ≡ Is (recordOf bytes) (lengthOf bytes)
       unfolding found
       found-is few = rw (right, waits-not, few, all)

@@ -25,6 +25,10 @@ use Rattle.records.proofs.Whole.{whole-there, tag-known, least-there}
 use Rattle.records.proofs.Answers.{found-wrong, found-more, found-much, found-is}
 use Rattle.records.proofs.Judged.{Judged, faulty, waiting, cut-much, cut, much, good, judged}
 
+-- a number, so many table bytes before, and whether the file ends with the bytes
+abbrev pub judgedAt : ℕ → ℕ → Bool → Context
+judgedAt number table last = record { number = number; table = table; last = last }
+
 -- one of two tests holds, where each of two others brings one of them
 either : (a b a′ b′ : Bool) → (a ≡ true → a′ ≡ true) → (b ≡ true → b′ ≡ true) → a || b ≡ true → a′ || b′ ≡ true
 either true b a′ b′ first second e = rw (first refl)
@@ -42,22 +46,20 @@ module _ (bytes rest : List ℕ) where
       let before : at + count < length bytes = omega (arith, add-suc at count) in
       rw (number-kept at count (omega arith), List·getD-append bytes rest 0 (at + count) before)
 
-  -- so does the tag, and the length
+  -- so does the tag
   pub tag-kept : 1 ≤ length bytes → tagOf (bytes ++ rest) ≡ tagOf bytes
   tag-kept h = List·getD-append bytes rest 0 0 h
 
+  -- and the length
   pub length-kept : 3 ≤ length bytes → lengthOf (bytes ++ rest) ≡ lengthOf bytes
   length-kept h = number-kept 1 2 h
 
-  -- a test of bytes that are there and that stay the same
+  -- a test of bytes that are there, which comes out the same on them, still holds
   test-stays : (count : ℕ) (test test′ : Bool) → (count ≤ length bytes → test′ ≡ test) → there bytes count && test ≡ true → there (bytes ++ rest) count && test′ ≡ true
   test-stays count test test′ same e =
       let on = both (there bytes count) test e in
       let enough = leb-true count (length bytes) (on .0) in
       rw (still-there enough, same enough) (on .1)
-
-  test-kept : (count : ℕ) (test test′ : Bool) → count ≤ length bytes → test′ ≡ test → there (bytes ++ rest) count && test′ ≡ there bytes count && test
-  test-kept count test test′ enough same = rw (still-there enough, le-leb count (length bytes) enough, same)
 
   -- dots that are too many stay too many
   dots-stay : tooManyDots bytes ≡ true → tooManyDots (bytes ++ rest) ≡ true
@@ -79,6 +81,7 @@ module _ (bytes rest : List ℕ) where
       dots-stay
 
   module _ (all : missing bytes ≡ false) where
+    -- tag and length are there
     head : 3 ≤ length bytes
     head = omega (arith, whole-there bytes all)
 
@@ -93,27 +96,31 @@ module _ (bytes rest : List ℕ) where
         rw (length-kept head, drop-append-le 3 bytes rest head, take-append-le (lengthOf bytes) (drop 3 bytes) rest (rw length-drop (omega (arith, whole-there bytes all))))
 
     -- a record stays too much, or not too much, whether the file ends or not
-    much-kept : (number table : ℕ) (last last′ : Bool) → tooMuch (record { number = number; table = table; last = last′ }) (bytes ++ rest) ≡ tooMuch (record { number = number; table = table; last = last }) bytes
+    much-kept : (number table : ℕ) (last : Bool) → tooMuch (judgedAt number table last) (bytes ++ rest) ≡ tooMuch (judgedAt number table false) bytes
     unfolding tooMuch
-    much-kept number table last last′ =
+    much-kept number table last =
         let first : 1 ≤ length bytes = omega (arith, head) in
         rw (still-there first, le-leb 1 (length bytes) first, still-there head, le-leb 3 (length bytes) head, tag-kept first, length-kept head)
 
     module _ (right : wrong bytes ≡ false) where
+      -- the shortest body of the tag is there
       least : (tag : ℕ) → tagOf bytes ≡ tag → 3 + lengthsOf tag .least ≤ length bytes
       least tag is = rw (← is) (omega (arith, least-there bytes all right, whole-there bytes all))
 
+      -- dots stay too many or not: where the tag is theirs, all of the count is there
       dots-by : (two : Bool) → eqb (tagOf bytes) 2 ≡ two → tooManyDots (bytes ++ rest) ≡ tooManyDots bytes
       dots-by true is =
           let enough = least 2 (eqb-true (tagOf bytes) 2 is) in
           rw (still-there enough, le-leb 7 (length bytes) enough, tag-kept (omega arith), number-kept 3 4 enough)
       dots-by false is = rw (tag-kept (omega (arith, head)), is, and-false, and-false)
 
+      -- the tag stays known or not
       tag-kept-known : unknownTag (bytes ++ rest) ≡ unknownTag bytes
       tag-kept-known =
           let first : 1 ≤ length bytes = omega (arith, head) in
           rw (still-there first, le-leb 1 (length bytes) first, tag-kept first)
 
+      -- the length stays wrong or not
       length-kept-right : wrongLength (bytes ++ rest) ≡ wrongLength bytes
       length-kept-right = rw (still-there head, le-leb 3 (length bytes) head, tag-kept (omega (arith, head)), length-kept head)
 
@@ -136,11 +143,8 @@ module _ (bytes rest : List ℕ) where
           (λ is. rw (number-kept 3 2 (least 6 is)))
           (tagOf bytes) (tag-known bytes all right) refl
 
--- judged by number and table bytes, and by whether the file ends
-abbrev pub judgedAt : ℕ → ℕ → Bool → Context
-judgedAt number table last = record { number = number; table = table; last = last }
-
 module _ (number table : ℕ) (bytes rest : List ℕ) (last : Bool) (answer : Found) (sure : answer ≡ More → ⊥) where
+  -- by the way in which the bytes are judged
   behind-by : Judged (judgedAt number table false) bytes → found (judgedAt number table false) bytes ≡ answer → found (judgedAt number table last) (bytes ++ rest) ≡ answer
   behind-by (faulty w) e =
       found-wrong (judgedAt number table last) (bytes ++ rest) (wrong-stays bytes rest w) ∙ sym (found-wrong (judgedAt number table false) bytes w) ∙ e
@@ -148,10 +152,10 @@ module _ (number table : ℕ) (bytes rest : List ℕ) (last : Bool) (answer : Fo
   behind-by (cut-much w s l m) e = impossible cc
   behind-by (cut w s l m) e = impossible cc
   behind-by (much w s m) e =
-      found-much (judgedAt number table last) (bytes ++ rest) (wrong-kept bytes rest s w) (missing-kept bytes rest s) (much-kept bytes rest s number table false last ∙ m)
+      found-much (judgedAt number table last) (bytes ++ rest) (wrong-kept bytes rest s w) (missing-kept bytes rest s) (much-kept bytes rest s number table last ∙ m)
       ∙ sym (found-much (judgedAt number table false) bytes w s m) ∙ e
   behind-by (good w s m) e =
-      found-is (judgedAt number table last) (bytes ++ rest) (wrong-kept bytes rest s w) (missing-kept bytes rest s) (much-kept bytes rest s number table false last ∙ m)
+      found-is (judgedAt number table last) (bytes ++ rest) (wrong-kept bytes rest s w) (missing-kept bytes rest s) (much-kept bytes rest s number table last ∙ m)
       ∙ ap₂ Is (record-kept bytes rest s w) (length-kept bytes rest (head bytes rest s))
       ∙ sym (found-is (judgedAt number table false) bytes w s m) ∙ e
 

@@ -1,4 +1,4 @@
--- The ways in which bytes are judged, one of which is each one's. Assumes nothing.
+-- The ways in which bytes are judged. Assumes nothing.
 use Prim.Native.Nat.{ℕ}
 use mathlib.Core.Path.{_≡_, refl}
 use mathlib.Core.Bool.{Bool, true, false}
@@ -16,6 +16,7 @@ pub data Judged (context : Context) (bytes : List ℕ) : Type 0 where
   good : wrong bytes ≡ false → missing bytes ≡ false → tooMuch context bytes ≡ false → Judged context bytes
 
 module _ (context : Context) (bytes : List ℕ) where
+  -- by the outcome of each test
   by-faults : (is-wrong is-short is-much ends : Bool) → wrong bytes ≡ is-wrong → missing bytes ≡ is-short → tooMuch context bytes ≡ is-much
       → context .last ≡ ends → Judged context bytes
   by-faults true is-short is-much ends w s m e = faulty w
@@ -25,6 +26,6 @@ module _ (context : Context) (bytes : List ℕ) where
   by-faults false false true ends w s m e = much w s m
   by-faults false false false ends w s m e = good w s m
 
-  -- one of these ways
+  -- bytes are judged in one of these ways
   pub judged : Judged context bytes
   judged = by-faults (wrong bytes) (missing bytes) (tooMuch context bytes) (context .last) refl refl refl refl

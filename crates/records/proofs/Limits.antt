@@ -21,7 +21,7 @@ use Rattle.records.proofs.Whole.{tag-known, most-there, dots-few}
 use Rattle.records.proofs.Accepted.{Accepted, found-accepted}
 
 -- the tag of a record
-abbrev tagFor : Record → ℕ
+abbrev pub tagFor : Record → ℕ
 tagFor End = 0
 tagFor (Write address value) = 1
 tagFor (Dots count) = 2
@@ -35,9 +35,11 @@ tag-back : (bytes : List ℕ) (tag : ℕ) → tag < 7 → tagFor (getD (recordsO
 tag-back bytes = each-tag (λ (tag : ℕ). tagFor (getD (recordsOf bytes) tag End) ≡ tag) refl refl refl refl refl refl refl
 
 module _ (context : Context) (bytes : List ℕ) {is : Record} {count : ℕ} (e : found context bytes ≡ Is is count) where
+  -- all that is known of it
   accepted : Accepted context bytes is count
   accepted = found-accepted context bytes e
 
+  -- it is too much in neither way
   faults : (tooManyRecords (context .number) bytes ≡ false) × (tooLongTable (context .table) bytes ≡ false)
   unfolding tooMuch
   faults = neither (tooManyRecords (context .number) bytes) (tooLongTable (context .table) bytes) (accepted .few)
@@ -80,6 +82,6 @@ module _ (context : Context) (bytes : List ℕ) {count : ℕ} where
   dots-fit {dots} e =
       let fits = found-accepted context bytes e in
       let is = tag-is context bytes e in
-      let count-is : Dots dots ≡ Dots (inBody bytes 0 4) = fits .record-is ∙ ap (λ (tag : ℕ). getD (recordsOf bytes) tag End) is in
+      let record-is : Dots dots ≡ Dots (inBody bytes 0 4) = fits .record-is ∙ ap (λ (tag : ℕ). getD (recordsOf bytes) tag End) is in
       let dots-is : dots ≡ inBody bytes 0 4 = cc in
       rw dots-is (dots-few bytes (fits .whole) (fits .right) is)

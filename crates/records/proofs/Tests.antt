@@ -9,6 +9,7 @@ use lib.Dec.{leb, ltb}
 use Rattle.rules.proofs.Cases.{impossible, le-or-lt}
 
 module _ (a b n : ℕ) (h : b ≤ a) where
+  -- by which of the two is larger
   less-by : (b + n ≤ a) ⊎ (a < b + n) → ltb (a - b) n ≡ ltb a (b + n)
   less-by (inl le) = rw (le-ltb (a - b) n (omega arith), le-ltb a (b + n) le)
   less-by (inr lt) = rw (lt-ltb (a - b) n (omega arith), lt-ltb a (b + n) lt)
@@ -17,6 +18,7 @@ module _ (a b n : ℕ) (h : b ≤ a) where
   pub less-left : ltb (a - b) n ≡ ltb a (b + n)
   less-left = less-by (le-or-lt (b + n) a)
 
+-- by which of the two is larger
 not-by : (a b : ℕ) → (b ≤ a) ⊎ (a < b) → ltb a b ≡ not (leb b a)
 not-by a b (inl le) = rw (le-ltb a b le, le-leb b a le)
 not-by a b (inr lt) = rw (lt-ltb a b lt, lt-leb b a lt)

@@ -28,11 +28,12 @@ module _ (bytes : List ℕ) (all : missing bytes ≡ false) where
   body-long = length-take-le (lengthOf bytes) (drop 3 bytes) (rw length-drop (omega (arith, whole-there)))
 
   module _ (right : wrong bytes ≡ false) where
-    -- none of the three things is wrong
+    -- neither tag nor length is wrong, nor a count of dots
     first-two : (unknownTag bytes || wrongLength bytes ≡ false) × (tooManyDots bytes ≡ false)
     unfolding wrong
     first-two = neither (unknownTag bytes || wrongLength bytes) (tooManyDots bytes) right
 
+    -- each of the first two apart
     each : (unknownTag bytes ≡ false) × (wrongLength bytes ≡ false)
     each = neither (unknownTag bytes) (wrongLength bytes) (first-two .0)
 
@@ -47,6 +48,7 @@ module _ (bytes : List ℕ) (all : missing bytes ≡ false) where
     tag-allows =
         not-false (allows (tagOf bytes) (lengthOf bytes)) (not-both (there bytes 3) (not (allows (tagOf bytes) (lengthOf bytes))) (each .1) (both-there .0))
 
+    -- both ends of the lengths that its tag allows
     ends : (leb (lengthsOf (tagOf bytes) .least) (lengthOf bytes) ≡ true) × (leb (lengthOf bytes) (lengthsOf (tagOf bytes) .most) ≡ true)
     unfolding allows
     ends = both (leb (lengthsOf (tagOf bytes) .least) (lengthOf bytes)) (leb (lengthOf bytes) (lengthsOf (tagOf bytes) .most)) tag-allows
@@ -55,7 +57,7 @@ module _ (bytes : List ℕ) (all : missing bytes ≡ false) where
     pub least-there : lengthsOf (tagOf bytes) .least ≤ lengthOf bytes
     least-there = leb-true (lengthsOf (tagOf bytes) .least) (lengthOf bytes) (ends .0)
 
-    -- and no longer than the longest
+    -- its body is no longer than the longest of its tag
     pub most-there : lengthOf bytes ≤ lengthsOf (tagOf bytes) .most
     most-there = leb-true (lengthOf bytes) (lengthsOf (tagOf bytes) .most) (ends .1)
 

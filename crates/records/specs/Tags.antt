@@ -7,11 +7,11 @@ use lib.ListN.{length, getD}
 use Rattle.records.specs.declared.tags.Lengths.{Lengths}
 
 -- one length alone
-abbrev just : ℕ → Lengths
+abbrev pub just : ℕ → Lengths
 just length = record { least = length; most = length }
 
 -- every length up to one
-abbrev upTo : ℕ → Lengths
+abbrev pub upTo : ℕ → Lengths
 upTo length = record { least = 0; most = length }
 
 -- by tag: 0 end, 1 write, 2 dots, 3 table bytes, 4 normal row, 5 overlay row, 6 line; table bytes have any length that two bytes can say

@@ -1,7 +1,6 @@
 // A record at a place of some bytes: which it is, or why there is none.
 ghost use mathlib.Core.Path.{_≡_};
 ghost use mathlib.Core.Bool.{true, false};
-ghost use mathlib.Core.List.{[]};
 ghost use lib.ListN.{drop};
 ghost use Rattle.records.specs.Faults.{wrong, missing};
 ghost use Rattle.records.specs.Found.{found};
@@ -70,22 +69,12 @@ fn front(bytes: &[u8], context: Context) -> Found
     }
 }
 
-// What stands where no bytes are.
-fn nothing(context: Context) -> Found
-    ensures { λ r. ⌜ r ≡ found context [] ⌝ }
-{
-    if context.last {
-        return Found::Refused(Refusal::FileEnds(context.number));
-    }
-    Found::More
-}
-
-// What stands at a place of the bytes; past their end nothing does.
+// What stands at a place of the bytes; past their end no bytes are there.
 pub fn record_at(bytes: &[u8], place: usize, context: Context) -> Found
     ensures { λ r. ⌜ r ≡ found context (drop place (now (bytes .entry))) ⌝ }
 {
     if place < bytes.len() {
         return front(&bytes[place..], context);
     }
-    nothing(context)
+    front(&bytes[..0], context)
 }

@@ -1,6 +1,6 @@
 // The tags, and the lengths of a body that each allows.
 ghost use mathlib.Core.Path.{_≡_};
-ghost use Rattle.records.specs.Tags.{lengthsOf, allows};
+ghost use Rattle.records.specs.Tags.{just, upTo, lengthsOf, allows};
 
 // The shortest and the longest body.
 pub struct Lengths {
@@ -8,28 +8,39 @@ pub struct Lengths {
     pub most: usize,
 }
 
+// One length alone.
+fn just(length: usize) -> Lengths
+    ensures { λ r. ⌜ r ≡ just length ⌝ }
+{
+    Lengths {
+        least: length,
+        most: length,
+    }
+}
+
+// Every length up to one.
+fn up_to(length: usize) -> Lengths
+    ensures { λ r. ⌜ r ≡ upTo length ⌝ }
+{
+    Lengths {
+        least: 0,
+        most: length,
+    }
+}
+
 // The lengths of a tag.
 fn lengths_of(tag: u8) -> Lengths
     ensures { λ r. ⌜ r ≡ lengthsOf tag ⌝ }
 {
     match tag {
-        0 => Lengths { least: 0, most: 0 },
-        1 => Lengths { least: 8, most: 8 },
-        2 => Lengths { least: 4, most: 4 },
-        3 => Lengths {
-            least: 0,
-            most: 65535,
-        },
-        4 => Lengths {
-            least: 0,
-            most: 8192,
-        },
-        5 => Lengths {
-            least: 0,
-            most: 2048,
-        },
-        6 => Lengths { least: 2, most: 2 },
-        _ => Lengths { least: 0, most: 0 },
+        0 => just(0),
+        1 => just(8),
+        2 => just(4),
+        3 => up_to(65535),
+        4 => up_to(8192),
+        5 => up_to(2048),
+        6 => just(2),
+        _ => just(0),
     }
 }
 

@@ -10,7 +10,7 @@ use Rattle.rules.specs.Checked.{verdict}
 use Rattle.rules.proofs.Cases.{impossible}
 use Rattle.refusals.specs.Refusal.{numbered}
 use Rattle.refusals.specs.declared.Refusal.{Refusal}
-use Rattle.refusals.specs.declared.Refusal.the-variants.{NoRegister, ReadOnly, StrayBits, QueueFull, StoreLength, TableLength, NormalLength, OverlayLength, OutputLength, BelowActive, NoFrameEntry, NoLineEntry, UndefinedEntry, AboveTotal, BadState}
+use Rattle.refusals.specs.declared.Refusal.the-variants.{NoRegister, ReadOnly, StrayBits, QueueFull, StoreLength, TableLength, NormalLength, OverlayLength, OutputLength, BelowActive, NoFrameEntry, NoLineEntry, UndefinedEntry, AboveTotal, BadState, WrongRecord, FileEnds, TooMuch}
 use Rattle.colour.specs.declared.entry.Entry.{Entry}
 use Rattle.windows.specs.Table.{TableCell, yend, lineTable, xend, windowId}
 use Rattle.pixels.specs.Cells.{PixelCell}
@@ -47,6 +47,9 @@ module _ (setup : Setup) (lent : Lent) where
   Placed (UndefinedEntry x) = x < setup .controls .width
   Placed AboveTotal = Unit {0}
   Placed BadState = Unit {0}
+  Placed (WrongRecord number) = Unit {0}
+  Placed (FileEnds number) = Unit {0}
+  Placed (TooMuch number) = Unit {0}
 
   -- before anything is read it is neither
   placed-early : (named : Refusal) → NothingListed (numbered named) → Placed named
@@ -65,6 +68,9 @@ module _ (setup : Setup) (lent : Lent) where
   placed-early (UndefinedEntry x) none = absurd (none .not-9 refl)
   placed-early AboveTotal none = tt
   placed-early BadState none = tt
+  placed-early (WrongRecord number) none = tt
+  placed-early (FileEnds number) none = tt
+  placed-early (TooMuch number) none = tt
 
   -- a first pass that is refused
   placed-entries : (named : Refusal) → run (view lent) (entriesOf setup) ≡ refused (numbered named) → Placed named
@@ -120,6 +126,9 @@ module _ (setup : Setup) (lent : Lent) where
     window-up-to (UndefinedEntry x) below listed = widened (omega arith) listed
     window-up-to AboveTotal below listed = absurd listed
     window-up-to BadState below listed = absurd listed
+    window-up-to (WrongRecord number) below listed = absurd listed
+    window-up-to (FileEnds number) below listed = absurd listed
+    window-up-to (TooMuch number) below listed = absurd listed
 
     -- a window entry that is listed is one of an ID that an active pixel has
     pub window-active : Listed setup lent (windowEntry id) → WindowListed setup lent (setup .controls .width) id
@@ -149,6 +158,9 @@ module _ (setup : Setup) (lent : Lent) where
     colour-up-to (UndefinedEntry x) listed = listed
     colour-up-to AboveTotal listed = listed
     colour-up-to BadState listed = listed
+    colour-up-to (WrongRecord number) listed = listed
+    colour-up-to (FileEnds number) listed = listed
+    colour-up-to (TooMuch number) listed = listed
 
     -- a cell that a colour comes from is listed for an active pixel of a line that is drawn
     pub colour-active : Listed setup lent (ofColour cell) → PixelListed setup lent cell
@@ -198,6 +210,9 @@ module _ (setup : Setup) (lent : Lent) where
   table-up-to (UndefinedEntry x) cell listed = met-on (suc x) cell listed
   table-up-to AboveTotal cell listed = absurd listed
   table-up-to BadState cell listed = absurd listed
+  table-up-to (WrongRecord number) cell listed = absurd listed
+  table-up-to (FileEnds number) cell listed = absurd listed
+  table-up-to (TooMuch number) cell listed = absurd listed
 
   -- a cell of the table is listed only where window IDs are on
   pub table-on : (cell : TableCell) → Listed setup lent (ofTable cell) → setup .controls .ids ≡ true

@@ -10,7 +10,7 @@ use Rattle.rules.specs.Checked.{verdict}
 use Rattle.rules.proofs.Cases.{impossible}
 use Rattle.refusals.specs.Refusal.{numbered}
 use Rattle.refusals.specs.declared.Refusal.{Refusal}
-use Rattle.refusals.specs.declared.Refusal.the-variants.{NoRegister, ReadOnly, StrayBits, QueueFull, StoreLength, TableLength, NormalLength, OverlayLength, OutputLength, BelowActive, NoFrameEntry, NoLineEntry, UndefinedEntry, AboveTotal, BadState}
+use Rattle.refusals.specs.declared.Refusal.the-variants.{NoRegister, ReadOnly, StrayBits, QueueFull, StoreLength, TableLength, NormalLength, OverlayLength, OutputLength, BelowActive, NoFrameEntry, NoLineEntry, UndefinedEntry, AboveTotal, BadState, WrongRecord, FileEnds, TooMuch}
 use Rattle.refusals.proofs.Known.{refusalOf, known}
 use Rattle.line.specs.Cells.{Cell, Lent}
 use Rattle.line.specs.Line.{lengthFaults, lineFaults}
@@ -75,6 +75,9 @@ nothing-listed setup lent (NoLineEntry x) cell none listed = none .not-8 refl
 nothing-listed setup lent (UndefinedEntry x) cell none listed = none .not-9 refl
 nothing-listed setup lent AboveTotal cell none listed = listed
 nothing-listed setup lent BadState cell none listed = listed
+nothing-listed setup lent (WrongRecord number) cell none listed = listed
+nothing-listed setup lent (FileEnds number) cell none listed = listed
+nothing-listed setup lent (TooMuch number) cell none listed = listed
 
 -- ---- a refusal has one name
 

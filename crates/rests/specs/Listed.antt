@@ -7,7 +7,7 @@ use Rattle.rules.specs.Rule.{Outcome, ok, refused}
 use Rattle.rules.specs.Faults.{Numbered}
 use Rattle.refusals.specs.Refusal.{numbered}
 use Rattle.refusals.specs.declared.Refusal.{Refusal}
-use Rattle.refusals.specs.declared.Refusal.the-variants.{NoRegister, ReadOnly, StrayBits, QueueFull, StoreLength, TableLength, NormalLength, OverlayLength, OutputLength, BelowActive, NoFrameEntry, NoLineEntry, UndefinedEntry, AboveTotal, BadState}
+use Rattle.refusals.specs.declared.Refusal.the-variants.{NoRegister, ReadOnly, StrayBits, QueueFull, StoreLength, TableLength, NormalLength, OverlayLength, OutputLength, BelowActive, NoFrameEntry, NoLineEntry, UndefinedEntry, AboveTotal, BadState, WrongRecord, FileEnds, TooMuch}
 use Rattle.colour.specs.declared.entry.Entry.{Entry}
 use Rattle.windows.specs.Table.{yend, lineTable, xend, windowId}
 use Rattle.windows.specs.Frame.{frameEntries}
@@ -70,7 +70,7 @@ module _ (setup : Setup) (lent : Lent) where
   NoLineListed x (windowEntry id) = MetListed setup lent x (windowEntry id)
   NoLineListed x (ofColour cell) = ⊥
 
-  -- up to the fault: 5, 6, 10 and 11 come before anything is read, 9 at x meets the pixels up to x; 1 to 4 are no line's
+  -- up to the fault: 5, 6, 10 and 11 come before anything is read, 9 at x meets the pixels up to x; 1 to 4 and 12 to 14 are no line's
   abbrev pub UpToFault : Refusal → Cell → Type 0
   UpToFault (NoRegister address) cell = ⊥
   UpToFault (ReadOnly address) cell = ⊥
@@ -87,6 +87,9 @@ module _ (setup : Setup) (lent : Lent) where
   UpToFault (UndefinedEntry x) cell = MetListed setup lent (suc x) cell
   UpToFault AboveTotal cell = ⊥
   UpToFault BadState cell = ⊥
+  UpToFault (WrongRecord number) cell = ⊥
+  UpToFault (FileEnds number) cell = ⊥
+  UpToFault (TooMuch number) cell = ⊥
 
   -- the same by the refusal's number and values
   pub record RefusedListed (refusal : Numbered) (cell : Cell) : Type 0 where

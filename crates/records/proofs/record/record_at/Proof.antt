@@ -29,14 +29,16 @@ returns c =
     c .front .ensures
     ∙ ap (found (given .context)) (take-all (length bytes - given .place) (drop (given .place) bytes) (rw length-drop (omega arith)))
 
-nothing-requires : tie.Need-nothing-requires
-nothing-requires c κs = search needs
+slice-aggregate-front : tie.Need-slice-aggregate-front
+slice-aggregate-front c = search needs
+
+front-requires-2 : tie.Need-front-requires-2
+front-requires-2 c κs = search needs
 
 returns-2 : tie.Need-returns-2
 returns-2 c =
-    let given = c .before .before .before .args in
-    let bytes = now (given .bytes) in
-    c .nothing .ensures ∙ ap (found (given .context)) (sym (drop-of-length-le bytes {i = given .place} (c .before .if1 .left)))
+    let given = c .before .before .before .before .args in
+    c .front2 .ensures ∙ ap (found (given .context)) (sym (drop-of-length-le (now (given .bytes)) {i = given .place} (c .before .before .if1 .left)))
 
 pub record-at-spec : {M : Type 1} → statement M
 record-at-spec =
@@ -47,5 +49,6 @@ record-at-spec =
     part-front-end
     front-requires
     returns
-    nothing-requires
+    slice-aggregate-front
+    front-requires-2
     returns-2)
