@@ -60,7 +60,7 @@ fn bytes(text: &str) -> Result<Vec<u8>, String> {
 }
 
 fn hex(digits: &str) -> Result<Vec<u8>, String> {
-    if digits.len() % 2 != 0 || !digits.bytes().all(|digit| digit.is_ascii_hexdigit()) {
+    if !digits.len().is_multiple_of(2) || !digits.bytes().all(|digit| digit.is_ascii_hexdigit()) {
         return Err(format!("not bytes in hex: {digits}"));
     }
     let pairs = (0..digits.len()).step_by(2).map(|at| &digits[at..at + 2]);
