@@ -6,6 +6,8 @@ mod damage;
 mod draw;
 #[path = "session/limits.rs"]
 mod limits;
+#[path = "session/long.rs"]
+mod long;
 mod model;
 mod numbers;
 #[path = "session/pair.rs"]
@@ -67,6 +69,7 @@ fn main() -> ExitCode {
 fn compare_all(pair: &mut Pair, numbers: &mut Numbers) -> Result<(), String> {
     random(pair, numbers)?;
     through_pipes(pair, numbers)?;
+    long::compare_all(pair, numbers)?;
     println!("sessions: {} files at the limits alike", limits::compare_all(pair)?);
     unreadable::compare_all(&pair.program)
 }

@@ -92,6 +92,11 @@ fn others() -> Vec<(&'static str, Vec<u8>, String)> {
         ("a table in two halves", [table(32_768), table(32_768), end.clone()].concat(), "ok\nok\n".into()),
         ("65,535 and 2 bytes of a table", [table(65_535), table(2)].concat(), "ok\nrefused 14 1\n".into()),
         ("65,535 and 1 byte of a table, cut", [&table(65_535)[..], &[3, 0, 1]].concat(), "ok\nrefused 13 1\n".into()),
+        (
+            "half a length after 32,768 bytes of a table",
+            [&table(32_768)[..], &[3, 0xFF]].concat(),
+            "ok\nrefused 13 1\n".into(),
+        ),
         ("65,534 and 2 bytes of a table", [table(65_534), table(2), end.clone()].concat(), "ok\nok\n".into()),
         ("65,535 bytes of a table, one short", table(65_535)[..65_537].to_vec(), "refused 13 0\n".into()),
         ("a write of 65,535 bytes", recorded::record(1, &[0; 65_535]), "refused 12 0\n".into()),

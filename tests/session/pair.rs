@@ -28,17 +28,15 @@ impl Pair {
     /// Lists files in one run, and compares it with their listings by the model, one after another.
     pub fn compare(&mut self, files: &[Vec<u8>]) -> Result<(), String> {
         let names: Vec<String> = (0..files.len()).map(|number| format!("{number}.session")).collect();
-        let mut wanted = Vec::new();
         for (name, file) in names.iter().zip(files) {
             self.program.put(name, file).map_err(|error| format!("{name}: {error}"))?;
-            let listing = of_model(file);
-            self.tally.count(&listing);
-            wanted.extend(listing);
         }
+        let listings: Vec<_> = files.iter().map(|file| of_model(file)).collect();
+        listings.iter().for_each(|listing| self.tally.count(listing));
         match self.program.run(&names).and_then(quiet) {
-            Ok(listing) if listing == wanted => Ok(()),
-            Ok(_) => Err(self.first_difference(files)),
-            Err(error) => Err(format!("{error}\n{}", self.first_difference(files))),
+            Ok(listing) if listing == listings.concat() => Ok(()),
+            Ok(listing) => Err(self.first_difference(files).unwrap_or_else(|| in_one_run(&listing, &listings))),
+            Err(error) => Err(format!("{error}\n{}", self.first_difference(files).unwrap_or_default())),
         }
     }
 
@@ -56,17 +54,30 @@ impl Pair {
     }
 
     /// The first file whose listing differs in a run of its own, made small.
-    fn first_difference(&self, files: &[Vec<u8>]) -> String {
-        match files.iter().find(|file| self.differs(file)) {
-            Some(file) => {
-                let file = shrink::smallest(file, |candidate| self.differs(candidate));
-                Difference { program: self.program.list(&file), model: of_model(&file), file }.to_string()
-            }
-            None => "listed one by one the files are alike, but not in one run\n".into(),
-        }
+    fn first_difference(&self, files: &[Vec<u8>]) -> Option<String> {
+        let file = files.iter().find(|file| self.differs(file))?;
+        let file = shrink::smallest(file, |candidate| self.differs(candidate));
+        Some(Difference { program: self.program.list(&file), model: of_model(&file), file }.to_string())
     }
 
     fn differs(&self, file: &[u8]) -> bool {
         self.program.list(file).map_or(true, |listing| listing != of_model(file))
     }
+}
+
+/// Where the listing of files in one run leaves their listings, which are alike one by one.
+fn in_one_run(listing: &[u8], listings: &[Vec<u8>]) -> String {
+    let mut rest = listing;
+    let departs = listings.iter().position(|one| match rest.strip_prefix(&one[..]) {
+        Some(after) => {
+            rest = after;
+            false
+        }
+        None => true,
+    });
+    let number = departs.unwrap_or(listings.len());
+    format!(
+        "file by file all is alike, but in one run the listing leaves that of file {number} of {}\n",
+        listings.len()
+    )
 }
