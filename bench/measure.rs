@@ -27,7 +27,7 @@ fn shown(number: f64) -> String {
     }
 }
 
-/// The best times of proved code and model in nanoseconds. Each is given by how long it takes to do its work so many times.
+/// The best times of proved code and model in nanoseconds. Each is given by how long its work takes so many times.
 pub fn nanoseconds(proved: impl Fn(u32) -> Duration, model: impl Fn(u32) -> Duration) -> (f64, f64) {
     let (proved_times, model_times) = (times(&proved), times(&model));
     let (mut best_proved, mut best_model) = (f64::INFINITY, f64::INFINITY);

@@ -1,4 +1,4 @@
-//! How long whole sessions take: the proved program, whose path is the first word, beside the plain Rust model as a program, the second.
+//! How long whole sessions take: the proved program beside the plain model as a program. Their paths are the words.
 
 mod measure;
 #[path = "../tests/numbers.rs"]

@@ -1,4 +1,4 @@
-//! The session files of `replay`: that each has the listing worked out by hand, and that the crate's files are those of the cases.
+//! The session files of `replay`: that the model lists each as was worked out by hand, and that the crate has them all.
 //! With the word `write` it writes the crate's files.
 
 #[path = "session/cases.rs"]

@@ -31,7 +31,7 @@ use std::path::Path;
 use std::process::ExitCode;
 
 use numbers::Numbers;
-use pair::Pair;
+use pair::{of_model, Pair};
 use program::Program;
 
 /// How many random sessions, each whole and damaged.
@@ -40,8 +40,8 @@ const SESSIONS: usize = 4000;
 /// How many files one run of the program lists.
 const FILES: usize = 400;
 
-/// How many sessions come in through a pipe, how long they are at most, and of how many bytes the pieces are in which each comes.
-const THROUGH_PIPES: usize = 60;
+/// How many sessions come in through a pipe, how long they are at most, and the pieces in which each comes.
+const THROUGH_PIPES: usize = 30;
 const LONGEST_THROUGH_A_PIPE: usize = 900;
 const PIECES: [usize; 6] = [1, 2, 3, 7, 4096, 65_536];
 
@@ -102,7 +102,7 @@ fn through_pipes(pair: &Pair, numbers: &mut Numbers) -> Result<(), String> {
         let mut file = file(numbers, number);
         file.truncate(LONGEST_THROUGH_A_PIPE);
         for piece in PIECES {
-            pair.compare_one(&file, |program, file| program.list_input(file, piece))
+            pair.compare_one(&file, &of_model(&file), |program, file| program.list_input(file, piece))
                 .map_err(|difference| format!("in pieces of {piece} bytes: {difference}"))?;
         }
     }

@@ -1,8 +1,8 @@
 //! Session files written as text: what each shows, its bytes, and its listing worked out by hand from the paper.
 //!
-//! A case is a line `== name`, a line that says what the case shows, the bytes, a line `--` and the listing.
-//! Bytes are hex digits, set apart as one likes; `00*512` is 512 zero bytes, and `( .. )*3` is what stands between three times.
-//! A line of the listing that ends in ` * 3` stands for three such lines. A line that starts with `#` is a remark.
+//! A case is a line `== name`, a line that says what the case shows, the bytes, a line `--` and the listing. Bytes are
+//! hex digits, set apart as one likes; `00*512` is 512 zero bytes, and `( .. )*3` is three times what stands between. A
+//! line of the listing that ends in ` * 3` stands for three such lines. A line that starts with `#` is a remark.
 
 pub struct Case {
     pub name: String,

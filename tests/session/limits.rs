@@ -62,11 +62,12 @@ pub fn compare_all(pair: &Pair) -> Result<usize, String> {
 
 /// A file by its name, and as it comes in.
 fn compare(pair: &Pair, file: &[u8], by_hand: &str) -> Result<(), String> {
-    if of_model(file) != by_hand.as_bytes() {
+    let model = of_model(file);
+    if model != by_hand.as_bytes() {
         return Err("the model lists something else than was worked out by hand\n".into());
     }
-    pair.compare_one(file, Program::list)?;
-    pair.compare_one(file, |program, file| program.list_input(file, 65_535))
+    pair.compare_one(file, &model, Program::list)?;
+    pair.compare_one(file, &model, |program, file| program.list_input(file, 65_535))
 }
 
 fn others() -> Vec<(&'static str, Vec<u8>, String)> {

@@ -4,7 +4,7 @@ use crate::draw;
 use crate::model::records::MOST_DOTS;
 use crate::model::windows::TABLE_BYTES;
 use crate::numbers::Numbers;
-use crate::pair::Pair;
+use crate::pair::{of_model, Pair};
 use crate::program::Program;
 use crate::recorded;
 
@@ -19,9 +19,10 @@ pub fn compare_all(pair: &Pair, numbers: &mut Numbers) -> Result<(), String> {
     let mut bytes = 0;
     for _ in 0..LONG {
         let file = session(numbers);
-        pair.compare_one(&file, Program::list)?;
+        let model = of_model(&file);
+        pair.compare_one(&file, &model, Program::list)?;
         for piece in PIECES {
-            pair.compare_one(&file, |program, file| program.list_input(file, piece))?;
+            pair.compare_one(&file, &model, |program, file| program.list_input(file, piece))?;
         }
         bytes += file.len();
     }

@@ -40,16 +40,16 @@ impl Pair {
         }
     }
 
-    /// Compares one listing, in whatever way it came of the file.
+    /// Compares a listing, in whatever way it came of the file, with that of the model.
     pub fn compare_one(
         &self,
         file: &[u8],
+        model: &[u8],
         list: impl Fn(&Program, &[u8]) -> io::Result<Vec<u8>>,
     ) -> Result<(), String> {
-        let model = of_model(file);
         match list(&self.program, file) {
             Ok(listing) if listing == model => Ok(()),
-            program => Err(Difference { file: file.to_vec(), program, model }.to_string()),
+            program => Err(self.told(Difference { file: file.to_vec(), program, model: model.to_vec() })),
         }
     }
 
@@ -57,7 +57,16 @@ impl Pair {
     fn first_difference(&self, files: &[Vec<u8>]) -> Option<String> {
         let file = files.iter().find(|file| self.differs(file))?;
         let file = shrink::smallest(file, |candidate| self.differs(candidate));
-        Some(Difference { program: self.program.list(&file), model: of_model(&file), file }.to_string())
+        Some(self.told(Difference { program: self.program.list(&file), model: of_model(&file), file }))
+    }
+
+    /// A difference in words, with its file kept beside the others.
+    fn told(&self, difference: Difference) -> String {
+        const NAME: &str = "different.session";
+        match self.program.put(NAME, &difference.file) {
+            Ok(()) => format!("{difference}  the file is kept as {NAME} in the tests' folder\n"),
+            Err(error) => format!("{difference}  {NAME}: {error}\n"),
+        }
     }
 
     fn differs(&self, file: &[u8]) -> bool {

@@ -5,7 +5,7 @@ use crate::recorded;
 /// How many bytes of a body are tried one by one.
 const BYTES: usize = 400;
 
-/// A file that still differs: without records that can be dropped, with short bodies, and with zeros where they will do.
+/// A file that still differs: without what can be dropped, with short bodies, and with zeros where they will do.
 pub fn smallest(file: &[u8], differs: impl Fn(&[u8]) -> bool) -> Vec<u8> {
     let records = dropped(recorded::split(file), |records| differs(&records.concat()));
     let records = shortened(records, |records| differs(&records.concat()));

@@ -41,7 +41,8 @@ fn number(line: &[u8]) -> usize {
 impl fmt::Display for Tally {
     fn fmt(&self, f: &mut fmt::Formatter) -> fmt::Result {
         let Self { files, ok, at, lines, pixels, not_black, refused } = self;
-        write!(f, "{files} files: {ok} ok, {at} runs of dots, {lines} lines drawn with {pixels} pixels, {not_black} of them not black")?;
+        write!(f, "{files} files: {ok} ok, {at} runs of dots, {lines} lines drawn ")?;
+        write!(f, "with {pixels} pixels, {not_black} of them not black")?;
         for (number, times) in refused.iter().enumerate().filter(|(_, &times)| times > 0) {
             write!(f, ", {times} refused by {number}")?;
         }

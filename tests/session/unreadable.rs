@@ -6,7 +6,7 @@ use crate::pair::of_model;
 use crate::program::Program;
 use crate::recorded;
 
-/// Names of a file that isn't there and of a folder, among files that are right: each is told of, and the others are listed.
+/// A file that isn't there and a folder, named among files that are right: each is told of, and the others are listed.
 pub fn compare_all(program: &Program) -> Result<(), String> {
     let file = [recorded::dots(3), recorded::line(7), recorded::END.to_vec()].concat();
     fs::create_dir_all(program.folder.join("folder")).map_err(|error| format!("folder: {error}"))?;
