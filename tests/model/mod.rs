@@ -1,4 +1,4 @@
-//! A plain model of the chip, written from the paper alone, that the proved library is compared with.
+//! A plain model of the chip and of sessions, written from the paper alone, that the proved code is compared with.
 
 // Each test uses a part of it.
 #![allow(dead_code)]
@@ -9,11 +9,14 @@ pub mod colour;
 pub mod cursor;
 pub mod frames;
 pub mod line;
+pub mod listing;
 pub mod pixel;
 pub mod queue;
 pub mod reads;
+pub mod records;
 pub mod registers;
 pub mod screen;
+pub mod session;
 pub mod store;
 pub mod timing;
 pub mod windows;
