@@ -31,7 +31,7 @@ put-number-put-digit-requires : (t : ℕ) → put-number-lts.Need-put-digit-requ
   put-number-below t,
   put-number.Post,
 ) (put-number-at t) put-number.Post
-put-number-put-digit-requires t c κs = 
+put-number-put-digit-requires t c κs =
     let start = c .before .before .before in
     (omega arith, omega (arith, decimal-at-least-1 (start .args .number), start .pre .1))
 
@@ -49,7 +49,7 @@ put-number-returns : (t : ℕ) → put-number-lts.Need-returns (
   put-number-below t,
   put-number.Post,
 ) (put-number-at t) put-number.Post
-put-number-returns t c = 
+put-number-returns t c =
     let number = c .before .before .before .before .before .before .args .number in
     put-as (c .before .before .put-digit .ensures) (sym (decimal-one number (c .before .before .before .before .if1 .taken)))
 
@@ -59,7 +59,7 @@ put-number-put-number-requires : (t : ℕ) → put-number-lts.Need-put-number-re
   put-number-below t,
   put-number.Post,
 ) (put-number-at t) put-number.Post
-put-number-put-number-requires t c κs = 
+put-number-put-number-requires t c κs =
     let start = c .before .before .before in
     let large = c .before .if1 .left in
     (omega (arith, large, start .pre .0), omega (arith, decimal-longer (start .args .number) large, start .pre .1))
@@ -70,7 +70,7 @@ put-number-put-digit-requires-2 : (t : ℕ) → put-number-lts.Need-put-digit-re
   put-number-below t,
   put-number.Post,
 ) (put-number-at t) put-number.Post
-put-number-put-digit-requires-2 t c κs = 
+put-number-put-digit-requires-2 t c κs =
     let start = c .before .before .before .before .before .before .before in
     let number = start .args .number in
     (omega arith, omega (arith, decimal-longer number (c .before .before .before .before .before .if1 .left), start .pre .1))
@@ -89,7 +89,7 @@ put-number-returns-2 : (t : ℕ) → put-number-lts.Need-returns-2 (
   put-number-below t,
   put-number.Post,
 ) (put-number-at t) put-number.Post
-put-number-returns-2 t c = 
+put-number-returns-2 t c =
     let last = c .before .before in
     let others = last .before .before .before .before in
     put-as (put-then (others .put-number .ensures) (last .put-digit2 .ensures))

@@ -15,7 +15,7 @@ same-length : tie.Need-same-length
 same-length c = search needs
 
 returns : tie.Need-returns
-returns c = 
+returns c =
     let low = c .before .before in
     let high = low .before .before .before .before in
     put-as (put-then (high .put-digit .ensures) (low .put-digit2 .ensures)) (two-digits (high .before .before .before .args .number))

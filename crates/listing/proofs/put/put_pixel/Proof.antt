@@ -21,7 +21,7 @@ same-length : tie.Need-same-length
 same-length c = search needs
 
 returns : tie.Need-returns
-returns c = 
+returns c =
     let last = c .before .before in
     let blue = last .before .before .before .before in
     let green = blue .before .before .before .before in

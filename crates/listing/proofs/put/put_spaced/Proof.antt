@@ -17,7 +17,7 @@ same-length : tie.Need-same-length
 same-length c = search needs
 
 returns : tie.Need-returns
-returns c = 
+returns c =
     let last = c .before .before in
     let space = last .before .before .before .before in
     let number = space .before .before .before .args .number in

@@ -19,7 +19,7 @@ same-length : tie.Need-same-length
 same-length c = search needs
 
 returns : tie.Need-returns
-returns c = 
+returns c =
     let last = c .before .before in
     let second = last .before .before .before .before in
     let said = second .before .before .before .before in

@@ -17,7 +17,7 @@ enum-told : tie.Need-enum-told
 enum-told c = search needs
 
 put-ok-requires : tie.Need-put-ok-requires
-put-ok-requires c κs = 
+put-ok-requires c κs =
     let start = c .before .before .before .before .before in
     omega (arith, start .pre, room-at-least (said (start .args .entry)) (now (start .args .output)))
 
@@ -25,7 +25,7 @@ enum-known-entry : tie.Need-enum-known-entry
 enum-known-entry c = search needs
 
 put-at-requires : tie.Need-put-at-requires
-put-at-requires c κs = 
+put-at-requires c κs =
     let start = c .before .before .before .before .before .before in
     omega (arith, start .pre, room-at-least (said (start .args .entry)) (now (start .args .output)))
 
@@ -33,7 +33,7 @@ enum-known-entry-2 : tie.Need-enum-known-entry-2
 enum-known-entry-2 c = search needs
 
 put-line-requires : tie.Need-put-line-requires
-put-line-requires c κs = 
+put-line-requires c κs =
     let start = c .before .before .before .before .before .before in
     let given = start .args in
     subst (λ (entry : Entry). given .at + roomFor (said entry) (now (given .output)) ≤ length (now (given .lent))) (c .before .before .entry2 .given .1) (start .pre)
@@ -42,7 +42,7 @@ enum-known-entry-3 : tie.Need-enum-known-entry-3
 enum-known-entry-3 c = search needs
 
 put-refused-requires : tie.Need-put-refused-requires
-put-refused-requires c κs = 
+put-refused-requires c κs =
     let start = c .before .before .before .before .before .before in
     omega (arith, start .pre, room-at-least (said (start .args .entry)) (now (start .args .output)))
 
@@ -51,7 +51,7 @@ same-length c = search needs
 
 returns : tie.Need-returns
 unfolding text
-returns c = 
+returns c =
     let told = c .before .before .before .before in
     let output = now (told .before .before .before .before .args .output) in
     put-as (c .before .before .put-ok .ensures) (ap (λ (entry : Entry). text (said entry) output) (sym (told .enum-told .given .1)))
@@ -61,7 +61,7 @@ same-length-2 c = search needs
 
 returns-2 : tie.Need-returns-2
 unfolding text
-returns-2 c = 
+returns-2 c =
     let told = c .before .before .before .before .before in
     let output = now (told .before .before .before .before .args .output) in
     put-as (c .before .before .put-at .ensures) (ap (λ (entry : Entry). text (said entry) output) (sym (told .entry .given .1)))
@@ -70,7 +70,7 @@ same-length-3 : tie.Need-same-length-3
 same-length-3 c = search needs
 
 returns-3 : tie.Need-returns-3
-returns-3 c = 
+returns-3 c =
     let told = c .before .before .before .before .before in
     let output = now (told .before .before .before .before .args .output) in
     put-as (c .before .before .put-line .ensures) (ap (λ (entry : Entry). text (said entry) output) (sym (told .entry2 .given .1)))
@@ -80,7 +80,7 @@ same-length-4 c = search needs
 
 returns-4 : tie.Need-returns-4
 unfolding text
-returns-4 c = 
+returns-4 c =
     let told = c .before .before .before .before .before in
     let output = now (told .before .before .before .before .args .output) in
     put-as (c .before .before .put-refused .ensures) (ap (λ (entry : Entry). text (said entry) output) (sym (told .entry3 .given .1)))

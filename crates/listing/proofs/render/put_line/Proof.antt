@@ -26,7 +26,7 @@ same-length : tie.Need-same-length
 same-length c = search needs
 
 returns : tie.Need-returns
-returns c = 
+returns c =
     let pixels = c .before .before in
     let last = pixels .before .before .before .before .before in
     let said = last .before .before .before .before in

@@ -21,7 +21,7 @@ same-length : tie.Need-same-length
 same-length c = search needs
 
 returns : tie.Need-returns
-returns c = 
+returns c =
     let put = c .before .before in
     put-as (put .put-two .ensures)
     (refusal-text (put .before .before .before .before .before .before .args .refusal) (put .before .before .number .ensures) (put .before .place .ensures))

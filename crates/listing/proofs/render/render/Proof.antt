@@ -8,7 +8,7 @@ use Rattle.listing.proofs.render.render.Statement.{statement}
 use Rattle.listing.proofs.render.render.Tie as tie
 
 returns : tie.Need-returns
-returns c = 
+returns c =
     let given = c .before .before .before .args in
     without-room (said (given .entry)) (now (given .output)) (now (given .text)) (given .at) (omega arith)
 
@@ -19,7 +19,7 @@ sub-if2 : tie.Need-sub-if2
 sub-if2 c = search needs
 
 returns-2 : tie.Need-returns-2
-returns-2 c = 
+returns-2 c =
     let given = c .before .before .before .before .before .args in
     without-room (said (given .entry)) (now (given .output)) (now (given .text)) (given .at) (omega arith)
 
@@ -30,7 +30,7 @@ same-length : tie.Need-same-length
 same-length c = search needs
 
 returns-3 : tie.Need-returns-3
-returns-3 c = 
+returns-3 c =
     let given = c .before .before .before .before .before .before .before .before .before .args in
     with-room (said (given .entry)) (now (given .output)) (now (given .text)) (given .at) (omega arith) (c .before .before .put-entry .ensures)
 

@@ -36,7 +36,7 @@ returns-2 : tie.Need-returns-2
 returns-2 c = search needs
 
 returns-3 : tie.Need-returns-3
-returns-3 c = 
+returns-3 c =
     let output = now (c .before .before .before .before .before .args .output) in
     rw (c .shown .ensures .0) (ap (λ (entry : Entry). roomFor (said entry) output) (sym (c .before .before .entry .given .1)))
 

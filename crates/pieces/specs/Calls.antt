@@ -1,0 +1,40 @@
+-- Calls of the step over a file that is lent in pieces.
+use Prim.Native.Nat.{ℕ}
+use mathlib.Core.Path.{_≡_}
+use mathlib.Core.Bool.{false}
+use mathlib.Core.List.{List, [], _∷_, _++_}
+use lib.ListN.{drop, replicate}
+use Rattle.rules.specs.Rule.{ok}
+use Rattle.rules.specs.Faults.{Numbered}
+use Rattle.registers.specs.Store.{storeLength}
+use Rattle.listing.specs.Text.{Listed, refused, text}
+use Rattle.session.specs.Record.{listed, ended, waits, stopped}
+use Rattle.session.specs.Lent.{Rooms}
+use Rattle.session.specs.Step.{outputRoom, sessionStep}
+use Rattle.session.specs.declared.session.Session.{Session}
+use Rattle.pieces.specs.Steps.{none}
+
+-- calls one after another, each with the session, the rooms and the place that the one before it left: from the bytes that are lent and the pieces to come, they list a text
+pub data Calls : Session → Rooms → List ℕ → ℕ → List (List ℕ) → List ℕ → Type 0 where
+  -- a call waits: bytes are lent in which what was unread stands at a place, and the next piece behind it
+  lends : {session next : Session} {rooms left : Rooms} {bytes more piece : List ℕ} {place at from : ℕ} {pieces : List (List ℕ)} {rest : List ℕ}
+      → sessionStep session rooms bytes place false ≡ (((next, at), left), ok waits)
+      → drop from more ≡ drop at bytes ++ piece
+      → Calls next left more from pieces rest → Calls session rooms bytes place (piece ∷ pieces) rest
+  -- a call lists an entry
+  lists : {session next : Session} {rooms left : Rooms} {bytes : List ℕ} {place at : ℕ} {pieces : List (List ℕ)} {rest : List ℕ} {entry : Listed}
+      → sessionStep session rooms bytes place (none pieces) ≡ (((next, at), left), ok (listed entry))
+      → Calls next left bytes at pieces rest → Calls session rooms bytes place pieces (text entry (left .output) ++ rest)
+  -- a call finds the end record: it is the last
+  ends : {session next : Session} {rooms left : Rooms} {bytes : List ℕ} {place at : ℕ} {pieces : List (List ℕ)}
+      → sessionStep session rooms bytes place (none pieces) ≡ (((next, at), left), ok ended)
+      → Calls session rooms bytes place pieces []
+  -- a call finds a fault of the file: it is listed, and it is the last
+  stops : {session next : Session} {rooms left : Rooms} {bytes : List ℕ} {place at : ℕ} {pieces : List (List ℕ)} {refusal : Numbered}
+      → sessionStep session rooms bytes place (none pieces) ≡ (((next, at), left), ok (stopped refusal))
+      → Calls session rooms bytes place pieces (text (refused refusal) (left .output))
+
+-- rooms at a session's start: store and output all zero
+pub record Zeroed (rooms : Rooms) : Type 0 where
+  pub store-zero : rooms .store ≡ replicate storeLength 0
+  pub output-zero : rooms .output ≡ replicate outputRoom 0
