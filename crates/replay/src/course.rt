@@ -1,0 +1,74 @@
+// How far a file is run.
+ghost use mathlib.Core.Path.{_≡_};
+
+// Whether the run goes on, is over, or breaks off because no more can be read or written.
+pub enum Going {
+    On,
+    Over,
+    Unread,
+    Unwritten,
+}
+
+// Bytes of the input wait from a place to an end, and the file ends there if they are its last. Text waits up to a place.
+pub struct Course {
+    pub from: usize,
+    pub to: usize,
+    pub last: bool,
+    pub put: usize,
+    pub going: Going,
+}
+
+impl Course {
+    // Before the first byte is read.
+    pub(crate) fn start() -> Self
+        ensures { λ r. ⌜ r .to ≡ 0 ⌝ }
+    {
+        Self {
+            from: 0,
+            to: 0,
+            last: false,
+            put: 0,
+            going: Going::On,
+        }
+    }
+
+    // With the next record at a place.
+    pub(crate) fn with_from(mut self, from: usize) -> Self
+        ensures { λ r. ⌜ r .to ≡ self .to ⌝ }
+    {
+        self.from = from;
+        self
+    }
+
+    // With text up to a place.
+    pub(crate) fn with_put(mut self, put: usize) -> Self
+        ensures { λ r. ⌜ r .to ≡ self .to ⌝ }
+    {
+        self.put = put;
+        self
+    }
+
+    // With the run ended.
+    pub(crate) fn ending(self, going: Going) -> Self
+        ensures { λ r. ⌜ r .to ≡ self .to ⌝ }
+    {
+        Self {
+            from: self.from,
+            to: self.to,
+            last: self.last,
+            put: self.put,
+            going,
+        }
+    }
+
+    // Whether the run goes on.
+    pub(crate) fn goes_on(self) -> bool {
+        let going = self.going;
+        match going {
+            Going::On => true,
+            Going::Over => false,
+            Going::Unread => false,
+            Going::Unwritten => false,
+        }
+    }
+}

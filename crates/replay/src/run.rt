@@ -1,0 +1,121 @@
+// A file is run, record by record.
+ghost use Prim.Native.Nat.{_≤_};
+ghost use lib.ListN.{length};
+use crate::course::Course;
+use crate::course::Going;
+use crate::input::read_on;
+use crate::rooms;
+use crate::text::put_entry;
+use crate::text::write_out;
+use listing::entry::Entry;
+use session::session::Session;
+use session::step::Answer;
+use session::step::step;
+
+// What a step's answer calls for: its entry is listed, more is read, or the file is over. No step is refused, since the rooms have their lengths.
+fn answered(
+    answer: Answer,
+    place: usize,
+    file: i32,
+    input: &mut [u8],
+    output: &[u32],
+    text: &mut [u8],
+    course: Course,
+) -> Course
+    requires { ⌜ course .to ≤ length (now input) ⌝ }
+    ensures { λ r. ⌜ r .to ≤ length (now (input .exit)) ⌝ }
+{
+    let next = course.with_from(place);
+    match answer {
+        Answer::Listed(entry) => put_entry(entry, output, text, next),
+        Answer::End => next.ending(Going::Over),
+        Answer::More => read_on(file, input, next),
+        Answer::Stopped(refusal) | Answer::Refused(refusal) => {
+            put_entry(
+                Entry::Refused(refusal),
+                output,
+                text,
+                next.ending(Going::Over),
+            )
+        }
+    }
+}
+
+// Steps from record to record, and reads on between them. A proved loop has to end, and nothing says that a file does, so the turns are counted down.
+fn steps(
+    file: i32,
+    input: &mut [u8],
+    text: &mut [u8],
+    store: &mut [u32],
+    table: &mut [u8],
+    normal: &mut [u8],
+    overlay: &mut [u8],
+    output: &mut [u32],
+) -> Course {
+    let mut session = Session::new();
+    let mut course = Course::start();
+    let mut turns = u64::MAX;
+    while turns > 0 && course.goes_on() {
+        let to = course.to;
+        let stepped = step(
+            session,
+            &input[0..to],
+            course.from,
+            course.last,
+            store,
+            table,
+            normal,
+            overlay,
+            output,
+        );
+        let next = stepped.session;
+        let answer = stepped.answer;
+        session = next;
+        course = answered(answer, stepped.place, file, input, output, text, course);
+        turns -= 1;
+    }
+    course
+}
+
+// Says why the listing could not be written. Answers that no more can be.
+fn unwritten() -> bool {
+    os::fail(b"standard output");
+    false
+}
+
+// Writes the rest of the text out, and then says why the file could not be read on. Answers whether more can be written.
+fn finish(name: &[u8], text: &[u8], course: Course) -> bool {
+    let going = course.going;
+    if let Going::Unwritten = going {
+        return unwritten();
+    }
+    if !write_out(text, course.put) {
+        return unwritten();
+    }
+    if let Going::Unread = going {
+        os::fail(name);
+    }
+    true
+}
+
+// Lists an open file, which messages call by this name. Answers whether more can be written.
+pub(crate) fn run_file(file: i32, name: &[u8]) -> bool {
+    let mut input = rooms::input();
+    let mut text = rooms::text();
+    let mut store = rooms::store();
+    let mut table = rooms::table();
+    let mut normal = rooms::normal();
+    let mut overlay = rooms::overlay();
+    let mut output = rooms::output();
+    let course = steps(
+        file,
+        &mut input,
+        &mut text,
+        &mut store,
+        &mut table,
+        &mut normal,
+        &mut overlay,
+        &mut output,
+    );
+    finish(name, &text, course)
+}

@@ -1,0 +1,42 @@
+// Text of the listing, which waits until there is much of it.
+ghost use mathlib.Core.Path.{_≡_};
+use crate::course::Course;
+use crate::course::Going;
+use libc::STDOUT_FILENO;
+use listing::entry::Entry;
+use listing::render::Rendered;
+use listing::render::render;
+
+// Writes out the text up to a place. Answers whether all of it was written.
+pub(crate) fn write_out(text: &[u8], put: usize) -> bool {
+    if put <= text.len() {
+        return io::write_all(STDOUT_FILENO, &text[0..put]);
+    }
+    false
+}
+
+// An entry's text goes to the front, where there is room for each.
+fn put_first(entry: Entry, output: &[u32], text: &mut [u8], course: Course) -> Course
+    ensures { λ r. ⌜ r .to ≡ course .to ⌝ }
+{
+    match render(entry, output, text, 0) {
+        Rendered::To(next) => course.with_put(next),
+        Rendered::NoRoom => course.ending(Going::Unwritten),
+    }
+}
+
+// An entry's text goes behind the text that waits, which is written out first where it leaves no room.
+pub(crate) fn put_entry(entry: Entry, output: &[u32], text: &mut [u8], course: Course) -> Course
+    ensures { λ r. ⌜ r .to ≡ course .to ⌝ }
+{
+    let put = course.put;
+    match render(entry, output, text, put) {
+        Rendered::To(next) => course.with_put(next),
+        Rendered::NoRoom => {
+            if write_out(text, put) {
+                return put_first(entry, output, text, course);
+            }
+            course.ending(Going::Unwritten)
+        }
+    }
+}
