@@ -27,7 +27,7 @@ there-again : (room bytes : List ℕ) → take (length bytes) (laid room bytes) 
 there-again room bytes = take-at bytes (drop (length bytes) room) (length bytes) refl
 
 -- what is held, put into rooms, is held there
-held-again : (rooms : Rooms) (held : Held) → heldIn (sessionOf held) (roomsWith rooms held) ≡ held
+pub held-again : (rooms : Rooms) (held : Held) → heldIn (sessionOf held) (roomsWith rooms held) ≡ held
 held-again rooms held = rw (there-again (rooms .table) (held .table), there-again (rooms .normal) (held .normal), there-again (rooms .overlay) (held .overlay)) refl
 
 -- what an answer comes to, where it is no refusal
@@ -57,17 +57,17 @@ module _ (session : Session) (rooms : Rooms) (bytes : List ℕ) (place : ℕ) (l
   same-came = ap (λ (all : Left × Came). all .1) (sym call-is)
 
   -- what it leaves is what the step holds
-  same-held : heldIn (left .0 .0) (left .1) ≡ step .0 .0
+  pub same-held : heldIn (left .0 .0) (left .1) ≡ step .0 .0
   unfolding afterStep
   same-held = ap (λ (all : Left × Came). heldIn (all .0 .0 .0) (all .0 .1)) call-is ∙ held-again rooms (step .0 .0)
 
   -- its output too
-  same-output : left .1 .output ≡ step .0 .0 .output
+  pub same-output : left .1 .output ≡ step .0 .0 .output
   unfolding afterStep
   same-output = ap (λ (all : Left × Came). all .0 .1 .output) call-is
 
   -- and the next record stands where the step says
-  same-place : drop (left .0 .1) bytes ≡ drop (step .0 .1) (drop place bytes)
+  pub same-place : drop (left .0 .1) bytes ≡ drop (step .0 .1) (drop place bytes)
   unfolding afterStep
   same-place = ap (λ (all : Left × Came). drop (all .0 .0 .1) bytes) call-is ∙ sym (drop-drop (step .0 .1) place bytes)
 
@@ -102,9 +102,11 @@ calls-steps {session} {rooms} {bytes} {place} (stops {pieces = pieces} {refusal 
     ∙ ap (λ (all : Held × ℕ). all .0 .output) (stopped-leaves last (heldIn session rooms) (drop place bytes) stopped-so) in
     subst (λ (output : List ℕ). Steps (heldIn session rooms) (drop place bytes) pieces (text (refused refusal) output)) (sym output-is) (steps.stops stopped-so)
 
+-- in zeroed rooms a new session holds what there is at first
+pub first-held : {rooms : Rooms} → Zeroed rooms → heldIn (sessionOf empty) rooms ≡ empty
+first-held zeroed = rw (zeroed .store-zero, zeroed .output-zero) refl
+
 -- from zeroed rooms, calls on a new session list the file's listing, however it is cut
 pub calls-list : {rooms : Rooms} {pieces : List (List ℕ)} {written : List ℕ} → Zeroed rooms
     → Calls (sessionOf empty) rooms [] 0 pieces written → written ≡ listing (joined pieces)
-calls-list {rooms} {pieces} {written} zeroed calls =
-    let start : heldIn (sessionOf empty) rooms ≡ empty = rw (zeroed .store-zero, zeroed .output-zero) refl in
-    cut-lists (subst (λ (held : Held). Steps held [] pieces written) start (calls-steps calls))
+calls-list {rooms} {pieces} {written} zeroed calls = cut-lists (subst (λ (held : Held). Steps held [] pieces written) (first-held zeroed) (calls-steps calls))

@@ -3,6 +3,8 @@ pub mod Behind
 pub mod Alone
 pub mod Cuts
 pub mod Calls
+pub mod Sizes
+pub mod Answered
 pub mod Exact
 pub mod Ends
 pub mod Lines

@@ -1,16 +1,18 @@
 -- Calls of the step over a file that is lent in pieces.
-use Prim.Native.Nat.{ℕ}
+use Prim.Native.Nat.{ℕ, _≤_}
 use mathlib.Core.Path.{_≡_}
 use mathlib.Core.Bool.{false}
 use mathlib.Core.List.{List, [], _∷_, _++_}
-use lib.ListN.{drop, replicate}
+use lib.ListN.{length, drop, replicate}
 use Rattle.rules.specs.Rule.{ok}
 use Rattle.rules.specs.Faults.{Numbered}
 use Rattle.registers.specs.Store.{storeLength}
+use Rattle.chip.specs.State.{Whole}
 use Rattle.listing.specs.Text.{Listed, refused, text}
+use Rattle.session.specs.Held.{Held}
 use Rattle.session.specs.Record.{listed, ended, waits, stopped}
 use Rattle.session.specs.Lent.{Rooms}
-use Rattle.session.specs.Step.{outputRoom, sessionStep}
+use Rattle.session.specs.Step.{tableRoom, normalRoom, overlayRoom, outputRoom, sessionStep}
 use Rattle.session.specs.declared.session.Session.{Session}
 use Rattle.pieces.specs.Steps.{none}
 
@@ -38,3 +40,18 @@ pub data Calls : Session → Rooms → List ℕ → ℕ → List (List ℕ) → 
 pub record Zeroed (rooms : Rooms) : Type 0 where
   pub store-zero : rooms .store ≡ replicate storeLength 0
   pub output-zero : rooms .output ≡ replicate outputRoom 0
+
+-- rooms of the right lengths for table and rows
+pub record RightLengths (rooms : Rooms) : Type 0 where
+  pub table-long : length (rooms .table) ≡ tableRoom
+  pub normal-long : length (rooms .normal) ≡ normalRoom
+  pub overlay-long : length (rooms .overlay) ≡ overlayRoom
+
+-- what is held has its sizes: store and output their lengths, table and rows no more than there is room for, and the state its arrays
+pub record Roomy (held : Held) : Type 0 where
+  pub store-long : length (held .chip .1) ≡ storeLength
+  pub table-held : length (held .table) ≤ tableRoom
+  pub normal-held : length (held .normal) ≤ normalRoom
+  pub overlay-held : length (held .overlay) ≤ overlayRoom
+  pub output-long : length (held .output) ≡ outputRoom
+  pub state-whole : Whole (held .chip .0)
