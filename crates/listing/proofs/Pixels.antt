@@ -1,11 +1,10 @@
 -- The pixels of a drawn line, and how many there are. Assumes nothing.
-use Prim.Native.Nat.{ℕ, zero, suc, _+_, _*_, _≤_, _<_}
-use mathlib.Core.Path.{_≡_, refl, ap, sym, _∙_}
+use Prim.Native.Nat.{ℕ, zero, suc, _+_, _*_, _<_}
+use mathlib.Core.Path.{_≡_, refl, ap, sym}
 use mathlib.Core.List.{List, [], _∷_, _++_, append-assoc, append-nil}
-use native.Mathlib.Nat.{min-le-right, mul-suc}
 use native.Mathlib.Numerals.{add-one}
 use native.Mathlib.Omega.{arith}
-use lib.ListN.{length, take, getD, length-append, length-take}
+use lib.ListN.{length, take, getD}
 use lib.Seq.{take-suc}
 use Rattle.listing.specs.Digits.{hex}
 use Rattle.listing.specs.Text.{ended, pixels}
@@ -25,12 +24,8 @@ pixels-append (colour ∷ colours) others = rw (pixels-append colours others) (s
 pub pixels-more : (colours : List ℕ) (i : ℕ) → i < length colours → pixels (take i colours) ++ ended (hex (getD colours i 0)) ≡ pixels (take (i + 1) colours)
 pixels-more colours i more = rw (add-one i, take-suc colours i 0 more, pixels-append, append-nil)
 
--- no more are shown than there are
-pub shown-at-most : (width : ℕ) (output : List ℕ) → length (take width output) ≤ length output
-shown-at-most width output = rw length-take (min-le-right width (length output))
-
--- as many as are shown are those shown
-pub shown-taken : (width : ℕ) (output : List ℕ) → take (length (take width output)) output ≡ take width output
-shown-taken zero output = refl
-shown-taken (suc width) [] = refl
-shown-taken (suc width) (colour ∷ output) = ap (λ (others : List ℕ). colour ∷ others) (shown-taken width output)
+-- as many as are taken of a list are those taken
+pub take-taken : (width : ℕ) (output : List ℕ) → take (length (take width output)) output ≡ take width output
+take-taken zero output = refl
+take-taken (suc width) [] = refl
+take-taken (suc width) (colour ∷ output) = ap (λ (others : List ℕ). colour ∷ others) (take-taken width output)

@@ -16,12 +16,26 @@ sets-append [] others lent place = rw add-zero
 sets-append (byte ∷ bytes) others lent place = rw (add-suc, ← suc-add) (sets-append bytes others (set lent place byte) (suc place))
 
 -- nothing put yet
-pub put-none : (lent : List ℕ) (place : ℕ) → place ≤ length lent → Put lent place [] lent place
+put-none : (lent : List ℕ) (place : ℕ) → place ≤ length lent → Put lent place [] lent place
 put-none lent place fits = record { stored = refl; after = sym (add-zero place); fits = fits }
 
 -- one store
-pub put-one : (lent : List ℕ) (place byte : ℕ) → place < length lent → Put lent place (byte ∷ []) (set lent place byte) (place + 1)
-put-one lent place byte inside = record { stored = refl; after = refl; fits = omega arith }
+pub put-one : (lent : List ℕ) (place byte : ℕ) {next : ℕ} → place < length lent → next ≡ place + 1 → Put lent place (byte ∷ []) (set lent place byte) next
+put-one lent place byte inside after = record { stored = refl; after = after; fits = omega arith }
+
+-- stores behind a place, one after another
+abbrev stores : List ℕ → ℕ → ℕ → List ℕ → List ℕ
+stores lent place count [] = lent
+stores lent place count (byte ∷ bytes) = stores (set lent (place + count) byte) place (suc count) bytes
+
+stores-sets : (bytes lent : List ℕ) (place count : ℕ) → stores lent place count bytes ≡ sets lent (place + count) bytes
+stores-sets [] lent place count = refl
+stores-sets (byte ∷ bytes) lent place count = stores-sets bytes (set lent (place + count) byte) place (suc count) ∙ rw add-suc
+
+-- stores from a place on
+pub put-stores : (byte : ℕ) (bytes lent : List ℕ) (place : ℕ) → place + length (byte ∷ bytes) ≤ length lent
+    → Put lent place (byte ∷ bytes) (stores (set lent place byte) place 1 bytes) (place + length (byte ∷ bytes))
+put-stores byte bytes lent place fits = record { stored = stores-sets bytes (set lent place byte) place 1 ∙ rw add-one; after = refl; fits = fits }
 
 module _ {lent bytes left : List ℕ} {place next : ℕ} (put : Put lent place bytes left next) where
   -- lent bytes stay as many
@@ -40,10 +54,6 @@ module _ {lent bytes left : List ℕ} {place next : ℕ} (put : Put lent place b
     fits = omega (arith, put-length, then .fits);
   }
 
-  -- one more store
-  pub put-more : (byte : ℕ) → next < length lent → Put lent place (bytes ++ byte ∷ []) (set left next byte) (next + 1)
-  put-more byte inside = put-then (put-one left next byte (omega (arith, put-length)))
-
   -- lent bytes as the contract has them
   pub put-placed : left ≡ placed lent place bytes
   put-placed = put .stored ∙ sets-eq bytes lent place (omega (arith, put .after, put .fits))
@@ -58,13 +68,14 @@ pub record Putting (bytesOf : List ℕ → List ℕ) (size : ℕ) (lent : List �
 
 module _ {bytesOf : List ℕ → List ℕ} {size : ℕ} {lent : List ℕ} {place : ℕ} {items : List ℕ} {count : ℕ} where
   -- before the first item
-  pub putting-start : bytesOf [] ≡ [] → place ≤ length lent → count ≤ length items → Putting bytesOf size lent place items count lent place 0
-  putting-start none fits enough = record {
+  pub putting-start : {next : ℕ} → next ≡ place → bytesOf [] ≡ [] → place ≤ length lent → count ≤ length items
+      → Putting bytesOf size lent place items count lent next 0
+  putting-start here none fits enough = record {
     in-range = omega arith;
     enough = enough;
-    stands = rw (mul-zero, add-zero);
+    stands = rw (mul-zero, add-zero) here;
     long = refl;
-    put = rw none (put-none lent place fits);
+    put = rw (none, here) (put-none lent place fits);
   }
 
   module _ {left : List ℕ} {next i : ℕ} (putting : Putting bytesOf size lent place items count left next i) where

@@ -1,53 +1,37 @@
--- Text in parts, as it is put, and the room that it takes. Assumes nothing.
-use Prim.Native.Nat.{ℕ, _+_, _*_, _/_, _%_, _^_, _≤_, _<_}
-use mathlib.Core.Path.{_≡_, refl, ap, sym}
-use mathlib.Core.List.{List, [], _∷_, _++_, append-assoc, append-nil}
-use native.Mathlib.Nat.{div-one, div-div-eq-div-mul}
-use native.Mathlib.Omega.{arith}
-use lib.ListN.{length, take}
-use Rattle.refusals.specs.Refusal.{numbered, numberOf, placeOf}
-use Rattle.refusals.specs.declared.Refusal.{Refusal}
-use Rattle.refusals.proofs.Known.{one-value}
-use Rattle.listing.specs.Digits.{digit, decimal, hexIn, hex}
-use Rattle.listing.specs.Text.{ascii, Listed, ok, at, line, refused, ended, spaced, pixels, text}
-use Rattle.listing.specs.Room.{roomFor}
-use Rattle.listing.proofs.Pixels.{shown-taken}
+-- An entry's text, and the colours that it shows. Assumes nothing.
+use Prim.Native.Nat.{ℕ, _/_, _%_}
+use mathlib.Core.Path.{_≡_, refl, sym}
+use mathlib.Core.List.{List, [], _∷_}
+use native.Mathlib.Nat.{div-one}
+use lib.ListN.{length, take, length-take}
+use Rattle.listing.specs.Digits.{digit, hex}
+use Rattle.listing.specs.Text.{Listed, ok, at, line, refused, ended, shown, text}
+use Rattle.listing.specs.Inner.{shownOf, lineAnd, Told}
+use Rattle.listing.specs.declared.parts.Parts.{Parts}
+use Rattle.listing.proofs.Pixels.{take-taken}
 
--- a number alone
-pub one-number : (number : ℕ) → 32 ∷ decimal number ≡ spaced (number ∷ [])
-one-number number = rw append-nil
-
--- a word and two numbers
-pub two-numbers : (word : List ℕ) (first second : ℕ)
-    → (word ++ spaced (first ∷ [])) ++ (spaced (second ∷ []) ++ 10 ∷ []) ≡ ended (word ++ spaced (first ∷ second ∷ []))
-two-numbers word first second =
-    simp (append-assoc, append-nil) (ap (λ (rest : List ℕ). word ++ 32 ∷ rest) (sym (append-assoc (decimal first) (32 ∷ decimal second) (10 ∷ []))))
-
--- two hex digits
-pub two-digits : (number : ℕ) → digit (number / 16 % 16) ∷ digit (number % 16) ∷ [] ≡ hexIn 2 number
-two-digits number = rw div-one
-
--- a colour's channels
-pub three-channels : (colour : ℕ) → hexIn 2 (colour / 65536) ++ (hexIn 2 (colour / 256) ++ (hexIn 2 colour ++ 10 ∷ [])) ≡ ended (hex colour)
+-- a colour's digits
+pub six-digits : (colour : ℕ) {fifth fourth third second first last : ℕ} → fifth ≡ digit (colour / 1048576 % 16) → fourth ≡ digit (colour / 65536 % 16)
+    → third ≡ digit (colour / 4096 % 16) → second ≡ digit (colour / 256 % 16) → first ≡ digit (colour / 16 % 16) → last ≡ digit (colour % 16)
+    → fifth ∷ fourth ∷ third ∷ second ∷ first ∷ last ∷ 10 ∷ [] ≡ ended (hex colour)
 unfolding hex
-three-channels colour = simp div-div-eq-div-mul
+six-digits colour five four three two one zero = rw (five, four, three, two, one, zero, div-one)
 
--- a drawn line of which as many pixels as are shown follow
-pub line-text : (y width : ℕ) (output : List ℕ) {count : ℕ} → count ≡ length (take width output)
-    → (ascii "line" ++ spaced (y ∷ [])) ++ (10 ∷ pixels (take count output)) ≡ text (line y width) output
+-- as many colours are shown as are counted
+pub shown-length : (listed : Listed) (output : List ℕ) → shownOf listed (length output) ≡ length (shown listed output)
+shown-length ok output = refl
+shown-length (at x y) output = refl
+shown-length (line y width) output = sym (length-take width output)
+shown-length (refused refusal) output = refl
+
+-- which are the first of the output
+shown-taken : (listed : Listed) (output : List ℕ) → take (length (shown listed output)) output ≡ shown listed output
+shown-taken ok output = refl
+shown-taken (at x y) output = refl
+shown-taken (line y width) output = take-taken width output
+shown-taken (refused refusal) output = refl
+
+-- an entry's parts, and the colours that these show, make its text
+pub whole-text : (listed : Listed) (output : List ℕ) (parts : Parts) → Told listed (length output) parts → lineAnd parts (take (parts .shown) output) ≡ text listed output
 unfolding text
-line-text y width output shown =
-    rw (shown, shown-taken width output) (sym (append-assoc (ascii "line" ++ spaced (y ∷ [])) (10 ∷ []) (pixels (take width output))))
-
--- a refusal, which has one value
-pub refusal-text : (refusal : Refusal) {number place : ℕ} → number ≡ numberOf refusal → place ≡ placeOf refusal
-    → ended (ascii "refused" ++ spaced (number ∷ place ∷ [])) ≡ text (refused (numbered refusal)) []
-unfolding text
-refusal-text refusal number-is place-is = rw (number-is, place-is, one-value refusal)
-
--- every entry is granted 32 bytes
-pub room-at-least : (listed : Listed) (output : List ℕ) → 32 ≤ roomFor listed output
-room-at-least ok output = omega arith
-room-at-least (at x y) output = omega arith
-room-at-least (line y width) output = omega arith
-room-at-least (refused refusal) output = omega arith
+whole-text listed output parts told = rw (told .says, told .shows, shown-length listed output, shown-taken listed output)

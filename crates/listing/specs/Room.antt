@@ -1,19 +1,18 @@
 -- The room that an entry is granted, and what rendering it leaves and answers.
-use Prim.Native.Nat.{ℕ, _+_, _*_}
+use Prim.Native.Nat.{ℕ, _+_, _*_, _^_, _<_}
+use mathlib.Core.Path.{_≡_}
 use mathlib.Core.Bool.{cond}
-use mathlib.Core.List.{List, _++_}
+use mathlib.Core.List.{List, [], _∷_, _++_}
 use lib.Dec.{leb}
 use lib.ListN.{length, take, drop}
-use Rattle.listing.specs.Text.{Listed, ok, at, line, refused, text}
+use Rattle.rules.specs.Faults.{placeIn}
+use Rattle.listing.specs.Text.{Listed, ok, at, line, refused, shown, text}
 use Rattle.listing.specs.declared.render.Rendered.{Rendered}
 use Rattle.listing.specs.declared.render.Rendered.the-variants.{To, NoRoom}
 
--- 32 bytes, and for a drawn line 7 more for each pixel shown
+-- 32 bytes, and 7 more for each colour shown
 abbrev pub roomFor : Listed → List ℕ → ℕ
-roomFor ok output = 32
-roomFor (at x y) output = 32
-roomFor (line y width) output = 32 + 7 * length (take width output)
-roomFor (refused refusal) output = 32
+roomFor listed output = 32 + 7 * length (shown listed output)
 
 -- lent bytes with some of them replaced, from a place on
 abbrev pub placed : List ℕ → ℕ → List ℕ → List ℕ
@@ -25,3 +24,10 @@ rendered listed output lent place =
     cond (leb (place + roomFor listed output) (length lent))
     (To (place + length (text listed output)), placed lent place (text listed output))
     (NoRoom, lent)
+
+-- an entry whose numbers have 32 bits, and a refusal one value
+abbrev pub Small : Listed → Type 0
+Small ok = Unit {0}
+Small (at x y) = (x < 2 ^ 32) × (y < 2 ^ 32)
+Small (line y width) = y < 2 ^ 32
+Small (refused refusal) = (refusal .number < 2 ^ 32) × (placeIn refusal < 2 ^ 32) × (refusal .values ≡ placeIn refusal ∷ [])

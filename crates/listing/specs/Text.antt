@@ -44,9 +44,20 @@ abbrev pub pixels : List ℕ → List ℕ
 pixels [] = []
 pixels (colour ∷ colours) = ended (hex colour) ++ pixels colours
 
--- an entry's text; a drawn line shows the words of the output up to its width
+-- the first line of an entry
+abbrev pub words : Listed → List ℕ
+words ok = ascii "ok"
+words (at x y) = ascii "at" ++ spaced (x ∷ y ∷ [])
+words (line y width) = ascii "line" ++ spaced (y ∷ [])
+words (refused refusal) = ascii "refused" ++ spaced (refusal .number ∷ refusal .values)
+
+-- the colours that an entry shows: of a drawn line, the words of the output up to its width
+abbrev pub shown : Listed → List ℕ → List ℕ
+shown ok output = []
+shown (at x y) output = []
+shown (line y width) output = take width output
+shown (refused refusal) output = []
+
+-- an entry's text
 unfoldable pub text : Listed → List ℕ → List ℕ
-text ok output = ended (ascii "ok")
-text (at x y) output = ended (ascii "at" ++ spaced (x ∷ y ∷ []))
-text (line y width) output = ended (ascii "line" ++ spaced (y ∷ [])) ++ pixels (take width output)
-text (refused refusal) output = ended (ascii "refused" ++ spaced (refusal .number ∷ refusal .values))
+text listed output = ended (words listed) ++ pixels (shown listed output)

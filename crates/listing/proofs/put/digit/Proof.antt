@@ -11,7 +11,7 @@ add-result : tie.Need-add-result
 add-result c = search needs
 
 returns : tie.Need-returns
-returns c = simp (lt-ltb _ _ (c .if1 .taken))
+returns c = rw (lt-ltb (c .before .args .value) 10 (c .if1 .taken))
 
 cast-result-2 : tie.Need-cast-result-2
 cast-result-2 c = search needs
@@ -20,7 +20,7 @@ add-result-2 : tie.Need-add-result-2
 add-result-2 c = search needs
 
 returns-2 : tie.Need-returns-2
-returns-2 c = simp (le-ltb _ _ (c .if1 .left))
+returns-2 c = rw (le-ltb (c .before .args .value) 10 (c .if1 .left))
 
 pub digit-spec : {M : Type 1} → statement M
 digit-spec =

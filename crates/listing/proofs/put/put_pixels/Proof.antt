@@ -18,7 +18,7 @@ abbrev μ-loop : tie.MeasureT-loop
 μ-loop lent₀ at colours count next₀ i₀ lent next i = count - i
 
 loop-holds : tie.Need-loop-holds Inv-loop μ-loop
-loop-holds c = putting-start refl (search needs) (search needs)
+loop-holds c = putting-start refl refl (search needs) (search needs)
 
 mul-put-pixel : tie.Need-mul-put-pixel Inv-loop μ-loop
 mul-put-pixel c = omega arith

@@ -1,27 +1,37 @@
 -- `listing::put::put_spaced` meets its contract: the space, and the number behind it. Assumes nothing.
+use mathlib.Core.Path.{refl, _∙_}
 use native.Mathlib.Omega.{arith}
 use borrow.Author.Needs.{needs}
-use Rattle.listing.proofs.Puts.{put-as, put-then}
+use denote.Ref.{now}
+use lib.ListN.{length-set}
+use Rattle.listing.proofs.Puts.{put-as, put-then, put-one}
 use Rattle.listing.proofs.Decimal.{decimal-at-most-10}
-use Rattle.listing.proofs.Texts.{one-number}
+use Rattle.listing.proofs.FirstLine.{one-spaced}
 use Rattle.listing.proofs.put.put_spaced.Statement.{statement}
 use Rattle.listing.proofs.put.put_spaced.Tie as tie
 
-put-byte-requires : tie.Need-put-byte-requires
-put-byte-requires c κs = search needs
+slice-write-lent : tie.Need-slice-write-lent
+slice-write-lent c = search needs
+
+add-put-number : tie.Need-add-put-number
+add-put-number c = search needs
 
 put-number-requires : tie.Need-put-number-requires
-put-number-requires c κs = omega (arith, decimal-at-most-10 (c .before .before .before .before .before .before .args .number) (search needs))
+put-number-requires c κs = simp length-set (omega (arith, decimal-at-most-10 (c .before .before .args .number) (search needs)))
 
 same-length : tie.Need-same-length
-same-length c = search needs
+same-length c =
+    let put = c .before .before in
+    let given = put .before .before .before .args in
+    put .put-number .kept .0 ∙ length-set (now (given .lent)) (given .at) 32
 
 returns : tie.Need-returns
 returns c =
-    let last = c .before .before in
-    let space = last .before .before .before .before in
-    let number = space .before .before .before .args .number in
-    (put-as (put-then (space .put-byte .ensures) (last .put-number .ensures)) (one-number number), omega (arith, decimal-at-most-10 number (search needs)))
+    let put = c .before .before in
+    let given = put .before .before .before .args in
+    let space = put-one (now (given .lent)) (given .at) 32 (search needs) refl in
+    (put-as (put-then space (put .put-number .ensures)) (one-spaced (given .number)), omega (arith, decimal-at-most-10 (given .number) (search needs)))
 
 pub put-spaced-spec : {M : Type 1} → statement M
-put-spaced-spec = tie.close (tie.spec put-byte-requires put-number-requires same-length returns)
+put-spaced-spec =
+    tie.close (tie.spec slice-write-lent add-put-number put-number-requires same-length returns)

@@ -1,31 +1,35 @@
--- `listing::put::put_word` meets its contract: one byte a turn. Assumes nothing.
-use Prim.Native.Nat.{_-_}
-use mathlib.Core.Path.{refl, sym}
-use mathlib.Core.List.{List}
+-- `listing::put::put_word` meets its contract: one letter a turn. Assumes nothing.
+use Prim.Native.Nat.{_+_, _-_}
+use mathlib.Core.Path.{refl, _∙_, sym}
 use native.Mathlib.Numerals.{add-one}
 use native.Mathlib.Omega.{arith}
-use borrow.Author.Needs.{needs}
-use denote.Ref.{now}
-use lib.ListN.{length}
-use lib.Seq.{take-suc, take-length}
-use Rattle.listing.proofs.Puts.{Putting, putting-start, putting-next, putting-over}
+use lib.ListN.{drop, getD, length-drop}
+use lib.Seq.{take-suc, getD-drop}
+use Rattle.listing.specs.Inner.{allWords}
+use Rattle.listing.proofs.Puts.{put-one, Putting, putting-start, putting-next, putting-over}
 use Rattle.listing.proofs.put.put_word.Statement.{statement}
 use Rattle.listing.proofs.put.put_word.Tie as tie
 
 abbrev Inv-loop : tie.InvT-loop
-Inv-loop lent₀ at word next₀ i₀ lent next i = Putting (λ bytes. bytes) 1 lent₀ at word (length word) lent next i
+Inv-loop lent₀ at from letters i₀ lent i = Putting (λ bytes. bytes) 1 lent₀ at (drop from allWords) letters lent (at + i) i
 
 abbrev μ-loop : tie.MeasureT-loop
-μ-loop lent₀ at word next₀ i₀ lent next i = length word - i
+μ-loop lent₀ at from letters i₀ lent i = letters - i
 
 loop-holds : tie.Need-loop-holds Inv-loop μ-loop
-loop-holds c = putting-start refl (search needs) (search needs)
+loop-holds c = putting-start (omega arith) refl (omega arith) (simp length-drop (omega arith))
 
-shared-slice-read-put-byte : tie.Need-shared-slice-read-put-byte Inv-loop μ-loop
-shared-slice-read-put-byte c = search needs
+add-letter : tie.Need-add-letter Inv-loop μ-loop
+add-letter c = omega arith
 
-put-byte-requires : tie.Need-put-byte-requires Inv-loop μ-loop
-put-byte-requires c κs = search needs
+letter-requires : tie.Need-letter-requires Inv-loop μ-loop
+letter-requires c κs = omega arith
+
+add-lent : tie.Need-add-lent Inv-loop μ-loop
+add-lent c = omega arith
+
+slice-write-lent : tie.Need-slice-write-lent Inv-loop μ-loop
+slice-write-lent c = omega arith
 
 add-i : tie.Need-add-i Inv-loop μ-loop
 add-i c = omega arith
@@ -35,15 +39,22 @@ loop-less c = omega arith
 
 loop-again : tie.Need-loop-again Inv-loop μ-loop
 loop-again c =
-    let l = c .before .before .before .before .before .before in
-    let word = now (l .before .before .before .args .word) in
-    putting-next (l .loop .inv) (search needs) (c .before .before .put-byte .ensures) refl (rw (add-one (l .loop .i), take-suc word (l .loop .i) 0 (search needs)))
+    let l = c .before .before in
+    let given = l .before .before .args in
+    let word = drop (given .from) allWords in
+    rw (c .letter .ensures ∙ sym (getD-drop (given .from) allWords (l .loop .i) 0))
+    (putting-next (l .loop .inv) (omega arith)
+    (put-one (l .loop .lent) (given .at + l .loop .i) (getD word (l .loop .i) 0) (omega arith) (omega arith)) refl
+    (rw (add-one (l .loop .i), take-suc word (l .loop .i) 0 (omega (arith, l .loop .inv .enough)))))
+
+add-result : tie.Need-add-result Inv-loop μ-loop
+add-result c = omega arith
 
 same-length : tie.Need-same-length Inv-loop μ-loop
 same-length c = c .before .loop .inv .long
 
 returns : tie.Need-returns Inv-loop μ-loop
-returns c = rw (take-length (now (c .before .before .before .before .args .word))) at (putting-over (c .before .loop .inv) (search needs))
+returns c = (putting-over (c .before .loop .inv) (omega arith), omega arith)
 
 pub put-word-spec : {M : Type 1} → statement M
 put-word-spec =
@@ -52,10 +63,13 @@ put-word-spec =
     Inv-loop
     μ-loop
     loop-holds
-    shared-slice-read-put-byte
-    put-byte-requires
+    add-letter
+    letter-requires
+    add-lent
+    slice-write-lent
     add-i
     loop-less
     loop-again
+    add-result
     same-length
     returns)

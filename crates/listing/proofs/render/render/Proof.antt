@@ -3,25 +3,34 @@ use native.Mathlib.Omega.{arith}
 use borrow.Author.Needs.{needs}
 use denote.Ref.{now}
 use Rattle.listing.specs.Text.{said}
+use Rattle.listing.proofs.Puts.{put-as}
+use Rattle.listing.proofs.Texts.{shown-length, whole-text}
 use Rattle.listing.proofs.Rendering.{without-room, with-room}
 use Rattle.listing.proofs.render.render.Statement.{statement}
 use Rattle.listing.proofs.render.render.Tie as tie
 
+of-requires : tie.Need-of-requires
+of-requires c κs = search needs
+
 returns : tie.Need-returns
 returns c =
-    let given = c .before .before .before .args in
+    let given = c .before .before .before .before .args in
     without-room (said (given .entry)) (now (given .output)) (now (given .text)) (given .at) (omega arith)
-
-room-for-requires : tie.Need-room-for-requires
-room-for-requires c κs = search needs
 
 sub-if2 : tie.Need-sub-if2
 sub-if2 c = search needs
 
+mul-if2 : tie.Need-mul-if2
+mul-if2 c = search needs
+
+add-if2 : tie.Need-add-if2
+add-if2 c = search needs
+
 returns-2 : tie.Need-returns-2
 returns-2 c =
-    let given = c .before .before .before .before .before .args in
-    without-room (said (given .entry)) (now (given .output)) (now (given .text)) (given .at) (omega arith)
+    let given = c .before .before .before .before .before .before .args in
+    without-room (said (given .entry)) (now (given .output)) (now (given .text)) (given .at)
+    (omega (arith, shown-length (said (given .entry)) (now (given .output))))
 
 put-entry-requires : tie.Need-put-entry-requires
 put-entry-requires c κs = search needs
@@ -31,10 +40,22 @@ same-length c = search needs
 
 returns-3 : tie.Need-returns-3
 returns-3 c =
-    let given = c .before .before .before .before .before .before .before .before .before .args in
-    with-room (said (given .entry)) (now (given .output)) (now (given .text)) (given .at) (omega arith) (c .before .before .put-entry .ensures)
+    let parts = c .before .before .before .before .before .before .before in
+    let given = parts .before .before .before .args in
+    with-room (said (given .entry)) (now (given .output)) (now (given .text)) (given .at)
+    (omega (arith, shown-length (said (given .entry)) (now (given .output))))
+    (put-as (c .before .before .put-entry .ensures) (whole-text (said (given .entry)) (now (given .output)) (parts .of .result) (parts .of .ensures)))
 
 pub render-spec : {M : Type 1} → statement M
 render-spec =
     tie.close
-    (tie.spec returns room-for-requires sub-if2 returns-2 put-entry-requires same-length returns-3)
+    (tie.spec
+    of-requires
+    returns
+    sub-if2
+    mul-if2
+    add-if2
+    returns-2
+    put-entry-requires
+    same-length
+    returns-3)
