@@ -33,11 +33,12 @@ in-same (suc count) (suc other) number below below′ =
     (λ small. in-one (suc count) number small ∙ sym (in-one (suc other) number small))
     (le-or-lt 10 number)
 
--- a number is below the power of ten that it names, and the next
+-- a number is below ten to its own power
 below-power : (number : ℕ) → number < 10 ^ number
 below-power zero = omega arith
 below-power (suc number) = rw pow-suc (omega (arith, below-power number))
 
+-- and below the next power
 below-next : (number : ℕ) → number < 10 ^ suc number
 below-next number = rw pow-suc (omega (arith, below-power number))
 

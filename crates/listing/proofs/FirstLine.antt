@@ -24,12 +24,15 @@ module _ (word : List ℕ) (first second : ℕ) where
   abbrev made : ℕ → List ℕ
   made numbers = word ++ spaced (take numbers (first ∷ second ∷ []))
 
+  -- none
   pub no-number : {numbers : ℕ} → numbers ≡ 0 → word ≡ made numbers
   no-number is = rw (is, append-nil)
 
+  -- one
   pub one-number : {numbers : ℕ} → numbers ≡ 1 → word ++ spaced (first ∷ []) ≡ made numbers
   one-number is = rw is
 
+  -- both
   pub two-numbers : (numbers : ℕ) → (numbers ≡ 0 → ⊥) → (numbers ≡ 1 → ⊥) → (word ++ spaced (first ∷ [])) ++ spaced (second ∷ []) ≡ made numbers
   two-numbers zero some more = absurd (some refl)
   two-numbers (suc zero) some more = absurd (more refl)

@@ -28,6 +28,7 @@ abbrev stores : List ℕ → ℕ → ℕ → List ℕ → List ℕ
 stores lent place count [] = lent
 stores lent place count (byte ∷ bytes) = stores (set lent (place + count) byte) place (suc count) bytes
 
+-- which are stores from the first of these places on
 stores-sets : (bytes lent : List ℕ) (place count : ℕ) → stores lent place count bytes ≡ sets lent (place + count) bytes
 stores-sets [] lent place count = refl
 stores-sets (byte ∷ bytes) lent place count = stores-sets bytes (set lent (place + count) byte) place (suc count) ∙ rw add-suc

@@ -13,7 +13,7 @@ abbrev pub decimalIn : ℕ → ℕ → List ℕ
 decimalIn zero number = []
 decimalIn (suc count) number = cond (ltb number 10) (digit number ∷ []) (decimalIn count (number / 10) ++ digit (number % 10) ∷ [])
 
--- a number in decimal: it has fewer digits than it counts, and one more
+-- a number in decimal: one digit more than the number itself counts is always enough
 unfoldable pub decimal : ℕ → List ℕ
 decimal number = decimalIn (suc number) number
 

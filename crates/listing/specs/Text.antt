@@ -44,20 +44,20 @@ abbrev pub pixels : List ℕ → List ℕ
 pixels [] = []
 pixels (colour ∷ colours) = ended (hex colour) ++ pixels colours
 
--- the first line of an entry
+-- the first line of an entry, without its end
 abbrev pub words : Listed → List ℕ
 words ok = ascii "ok"
 words (at x y) = ascii "at" ++ spaced (x ∷ y ∷ [])
 words (line y width) = ascii "line" ++ spaced (y ∷ [])
 words (refused refusal) = ascii "refused" ++ spaced (refusal .number ∷ refusal .values)
 
--- the colours that an entry shows: of a drawn line, the words of the output up to its width
+-- the colours that an entry shows: of a drawn line, those of the output up to its width
 abbrev pub shown : Listed → List ℕ → List ℕ
 shown ok output = []
 shown (at x y) output = []
 shown (line y width) output = take width output
 shown (refused refusal) output = []
 
--- an entry's text
+-- an entry's text: its first line, and each colour that it shows on a line of its own
 unfoldable pub text : Listed → List ℕ → List ℕ
 text listed output = ended (words listed) ++ pixels (shown listed output)

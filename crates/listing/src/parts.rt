@@ -6,7 +6,8 @@ ghost use Rattle.listing.specs.Text.{said};
 ghost use Rattle.listing.specs.Inner.{allWords, Told};
 use crate::entry::Entry;
 
-// The line's word, by where it starts among the words and how many letters it has; how many numbers follow, and these; how many pixels are shown.
+// The line's word, by where it starts among the words and how many letters it has; how many numbers stand behind it, and which; and how many
+// pixels the entry shows.
 pub(crate) struct Parts {
     pub(crate) from: usize,
     pub(crate) letters: usize,
