@@ -1,4 +1,4 @@
--- Nothing after the end record is read. Assumes nothing.
+-- What stands behind the end record counts for nothing. Assumes nothing.
 use Prim.Native.Nat.{ℕ, zero, suc, _+_, _≤_}
 use mathlib.Core.Path.{_≡_, refl, ap, sym, _∙_}
 use mathlib.Core.Bool.{true}

@@ -8,3 +8,4 @@ pub mod Answered
 pub mod Exact
 pub mod Ends
 pub mod Lines
+pub mod Answers

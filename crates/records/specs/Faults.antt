@@ -1,4 +1,4 @@
--- The three faults of a record, apart: it is wrong (12), too much (14), or bytes are missing (13). The first two rest only on bytes that are there.
+-- The three faults of a record, apart: it is wrong (12), too much (14), or bytes are missing (13). The first two look at no byte that hasn't come.
 use Prim.Native.Nat.{ℕ, _+_}
 use mathlib.Core.Bool.{Bool, not, _&&_, _||_}
 use mathlib.Core.List.{List}

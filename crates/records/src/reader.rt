@@ -1,4 +1,4 @@
-// The reader: it keeps hold of lent record bytes and its place among them.
+// The reader: bytes that are lent, with a place in them.
 ghost use mathlib.Core.Path.{_≡_};
 ghost use lib.ListN.{drop};
 ghost use Rattle.records.specs.Found.{found};

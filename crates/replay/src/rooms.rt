@@ -2,7 +2,7 @@
 ghost use mathlib.Core.Path.{_≡_};
 ghost use lib.ListN.{length, replicate};
 
-// For bytes of the file: twice as many as a record can have.
+// For bytes of the file: nearly twice as many as a record can have.
 pub(crate) fn input() -> [u8; 131072]
     ensures { λ r. ⌜ 131072 ≡ length r ⌝ }
 {
@@ -44,9 +44,9 @@ pub(crate) fn overlay() -> [u8; 2048]
     [0; 2048]
 }
 
-// For the drawn line.
+// For the drawn line, all zero.
 pub(crate) fn output() -> [u32; 2048]
-    ensures { λ r. ⌜ 2048 ≡ length r ⌝ }
+    ensures { λ r. ⌜ (2048 ≡ length r) × (r ≡ replicate 2048 0) ⌝ }
 {
     [0; 2048]
 }

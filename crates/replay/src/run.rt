@@ -1,5 +1,6 @@
 // A file is run, record by record.
 ghost use Prim.Native.Nat.{_≤_};
+ghost use mathlib.Core.Path.{_≡_};
 ghost use lib.ListN.{length};
 use crate::course::Course;
 use crate::course::Going;
@@ -7,12 +8,33 @@ use crate::input::read_on;
 use crate::rooms;
 use crate::text::put_entry;
 use crate::text::write_out;
-use listing::entry::Entry;
+use session::answers::Shows;
 use session::session::Session;
 use session::step::Answer;
 use session::step::step;
 
-// What a step's answer calls for: its entry is listed, more is read, or the file is over. No step is refused, since the rooms have their lengths.
+// Lists what an answer shows.
+fn listed(answer: Answer, output: &[u32], text: &mut [u8], course: Course) -> Course
+    ensures { λ r. ⌜ r .to ≡ course .to ⌝ }
+{
+    match answer.shows() {
+        Shows::Entry(entry) => put_entry(entry, output, text, course),
+        Shows::Nothing => course,
+    }
+}
+
+// On at the next record, or over with this answer.
+fn moved(answer: Answer, place: usize, course: Course) -> Course
+    ensures { λ r. ⌜ r .to ≡ course .to ⌝ }
+{
+    let next = course.with_from(place);
+    if answer.over() {
+        return next.ending(Going::Over);
+    }
+    next
+}
+
+// Moves on by a step's answer, lists what it shows, and reads on where it waits for more bytes.
 fn answered(
     answer: Answer,
     place: usize,
@@ -25,20 +47,11 @@ fn answered(
     requires { ⌜ course .to ≤ length (now input) ⌝ }
     ensures { λ r. ⌜ r .to ≤ length (now (input .exit)) ⌝ }
 {
-    let next = course.with_from(place);
-    match answer {
-        Answer::Listed(entry) => put_entry(entry, output, text, next),
-        Answer::End => next.ending(Going::Over),
-        Answer::More => read_on(file, input, next),
-        Answer::Stopped(refusal) | Answer::Refused(refusal) => {
-            put_entry(
-                Entry::Refused(refusal),
-                output,
-                text,
-                next.ending(Going::Over),
-            )
-        }
+    let next = listed(answer, output, text, moved(answer, place, course));
+    if let Answer::More = answer {
+        return read_on(file, input, next);
     }
+    next
 }
 
 // Steps from record to record, and reads on between them. A proved loop has to end, and nothing says that a file does, so the turns are counted down.

@@ -19,6 +19,8 @@ use Rattle.session.specs.declared.step.Answer.{Answer}
 use Rattle.session.specs.declared.step.Answer.the-variants as answer
 use Rattle.session.specs.declared.step.Stepped.{Stepped}
 use Rattle.session.proofs.session.Session.new.Reads as new
+use Rattle.session.proofs.step.Answer.over.Reads as over
+use Rattle.session.proofs.step.Answer.shows.Reads as shows
 use Rattle.session.proofs.step.step.Reads as step
 
 -- the entry that says so
@@ -53,6 +55,12 @@ back (answer.Refused refusal) = ap answer.Refused (known refusal)
 
 pub new-unique : OneAnswer new.Post
 new-unique = by-equation _ _
+
+pub shows-unique : OneAnswer shows.Post
+shows-unique = by-equation _ _
+
+pub over-unique : OneAnswer over.Post
+over-unique = by-equation _ _
 
 pub step-unique : OneOutcome
     (λ k exit. roomsOf (now (exit .1 .1 .1 .1 .0)) (now (exit .1 .1 .1 .1 .1 .0)) (now (exit .1 .1 .1 .1 .1 .1 .0)) (now (exit .1 .1 .1 .1 .1 .1 .1 .0)) (now (exit .1 .1 .1 .1 .1 .1 .1 .1 .0)))

@@ -6,7 +6,7 @@ use Rattle.registers.specs.Store.{storeLength}
 use Rattle.chip.specs.State.{fresh}
 use Rattle.chip.specs.Call.{Chip}
 
--- the chip, the bytes of the ID table, of the normal row and of the overlay row, the words of the output, and how many records were read
+-- the chip, the bytes of the ID table, of the normal row and of the overlay row, the words of the output, and how many records stood before the next one
 pub record Held : Type 0 where
   pub chip : Chip
   pub table : List ℕ
@@ -27,62 +27,34 @@ empty =
       records = 0;
     }
 
--- after a record that changed the chip
-abbrev pub withChip : Held → Chip → Held
-withChip held chip =
+-- after a record: one more was read
+abbrev after : Held → Chip → List ℕ → List ℕ → List ℕ → List ℕ → Held
+after held chip table normal overlay output =
     record {
       chip = chip;
-      table = held .table;
-      normal = held .normal;
-      overlay = held .overlay;
-      output = held .output;
-      records = held .records + 1;
-    }
-
--- after a record that changed the table
-abbrev pub withTable : Held → List ℕ → Held
-withTable held table =
-    record {
-      chip = held .chip;
       table = table;
-      normal = held .normal;
-      overlay = held .overlay;
-      output = held .output;
-      records = held .records + 1;
-    }
-
--- after a record that changed the normal row
-abbrev pub withNormal : Held → List ℕ → Held
-withNormal held normal =
-    record {
-      chip = held .chip;
-      table = held .table;
       normal = normal;
-      overlay = held .overlay;
-      output = held .output;
-      records = held .records + 1;
-    }
-
--- after a record that changed the overlay row
-abbrev pub withOverlay : Held → List ℕ → Held
-withOverlay held overlay =
-    record {
-      chip = held .chip;
-      table = held .table;
-      normal = held .normal;
       overlay = overlay;
-      output = held .output;
-      records = held .records + 1;
-    }
-
--- after a record that asked for a line
-abbrev pub withLine : Held → Chip → List ℕ → Held
-withLine held chip output =
-    record {
-      chip = chip;
-      table = held .table;
-      normal = held .normal;
-      overlay = held .overlay;
       output = output;
       records = held .records + 1;
     }
+
+-- one that changed the chip
+abbrev pub withChip : Held → Chip → Held
+withChip held chip = after held chip (held .table) (held .normal) (held .overlay) (held .output)
+
+-- one that changed the table
+abbrev pub withTable : Held → List ℕ → Held
+withTable held table = after held (held .chip) table (held .normal) (held .overlay) (held .output)
+
+-- one that changed the normal row
+abbrev pub withNormal : Held → List ℕ → Held
+withNormal held normal = after held (held .chip) (held .table) normal (held .overlay) (held .output)
+
+-- one that changed the overlay row
+abbrev pub withOverlay : Held → List ℕ → Held
+withOverlay held overlay = after held (held .chip) (held .table) (held .normal) overlay (held .output)
+
+-- one that asked for a line
+abbrev pub withLine : Held → Chip → List ℕ → Held
+withLine held chip output = after held chip (held .table) (held .normal) (held .overlay) output

@@ -16,16 +16,19 @@ use Rattle.session.specs.declared.session.Session.{Session}
 use Rattle.session.specs.declared.step.Answer.{Answer}
 use Rattle.session.specs.declared.step.Answer.the-variants.{Listed, End, More, Stopped, Refused}
 
--- the longest table, normal row and overlay row, and the longest line
+-- the bytes of the longest table
 abbrev pub tableRoom : ℕ
 tableRoom = 65536
 
+-- of the longest normal row
 abbrev pub normalRoom : ℕ
 normalRoom = 8192
 
+-- of the longest overlay row
 abbrev pub overlayRoom : ℕ
 overlayRoom = 2048
 
+-- the words of the longest line
 abbrev pub outputRoom : ℕ
 outputRoom = 2048
 

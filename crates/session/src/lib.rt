@@ -1,5 +1,6 @@
 // A recorded session: what it holds, and one record of it at a time.
 mod acts;
+pub mod answers;
 mod fit;
 mod keep;
 pub mod session;

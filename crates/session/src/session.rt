@@ -4,7 +4,7 @@ ghost use Rattle.session.specs.Held.{empty};
 ghost use Rattle.session.specs.Lent.{sessionOf};
 use chip::state::State;
 
-// The chip's state, how many bytes of the lent table and rows are there, and how many records have been read.
+// The chip's state, how many bytes of the lent table and rows are there, and how many records stood before the next one.
 pub struct Session {
     pub state: State,
     pub table: usize,

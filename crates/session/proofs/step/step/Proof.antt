@@ -1,11 +1,11 @@
 -- `session::step::step` meets its contract: its first test, what stands at the place, and what the record does. Assumes nothing.
-use Prim.Native.Nat.{ℕ}
+use Prim.Native.Nat.{ℕ, _+_, _≤_}
 use mathlib.Core.Path.{_≡_, sym, ap, subst, _∙_}
 use mathlib.Core.List.{List}
 use native.Mathlib.Nat.{add-assoc}
 use borrow.Author.Needs.{needs}
 use denote.Ref.{now}
-use lib.ListN.{drop}
+use lib.ListN.{length, drop}
 use Rattle.rules.specs.Checked.{verdict}
 use Rattle.chip.specs.declared.state.Fit.{Fit}
 use Rattle.records.proofs.Accepted.{found-accepted}
@@ -40,31 +40,22 @@ read-requires c κs = search needs
 enum-known-found : tie.Need-enum-known-found
 enum-known-found c = search needs
 
-add-start : tie.Need-add-start
-add-start c =
-    let tested = c .before .before .before .before .before .before in
-    let given = tested .before .before .before .before .before .before .before .args in
+-- the bytes of a record that was found end within the lent ones
+inside-at : (c : tie.After-known-told2) →
+    let given = c .before .before .before .before .before .before .before .before .before .before .before .before .before .args in
+    given .place + 3 + c .before .found .given .0 .1 .0 ≤ length (now (given .bytes))
+inside-at c =
+    let given = c .before .before .before .before .before .before .before .before .before .before .before .before .before .args in
     let rooms = roomsOf (now (given .store)) (now (given .table)) (now (given .normal)) (now (given .overlay)) (now (given .output)) in
-    let asked = c .before .before .before in
-    let found-at = c .before in
-    let is = sym (asked .read .ensures) ∙ found-at .found .given .1 in
+    let is = sym (c .before .before .before .read .ensures) ∙ c .before .found .given .1 in
     let accepted = found-accepted (judgedBy (given .session) rooms (given .last)) (drop (given .place) (now (given .bytes))) is in
-    let inside = ends-within (now (given .bytes)) (given .place) (found-at .found .given .0 .1 .0) (accepted .there) in
-    let good = tested .before .before .before .before .before .before .before .good in
-    search needs
+    ends-within (now (given .bytes)) (given .place) (c .before .found .given .0 .1 .0) (accepted .there)
+
+add-start : tie.Need-add-start
+add-start c = let inside = inside-at c in let good = c .before .before .before .before .before .before .before .before .before .before .before .before .before .good in search needs
 
 add-end : tie.Need-add-end
-add-end c =
-    let tested = c .before .before .before .before .before .before in
-    let given = tested .before .before .before .before .before .before .before .args in
-    let rooms = roomsOf (now (given .store)) (now (given .table)) (now (given .normal)) (now (given .overlay)) (now (given .output)) in
-    let asked = c .before .before .before in
-    let found-at = c .before in
-    let is = sym (asked .read .ensures) ∙ found-at .found .given .1 in
-    let accepted = found-accepted (judgedBy (given .session) rooms (given .last)) (drop (given .place) (now (given .bytes))) is in
-    let inside = ends-within (now (given .bytes)) (given .place) (found-at .found .given .0 .1 .0) (accepted .there) in
-    let good = tested .before .before .before .before .before .before .before .good in
-    search needs
+add-end c = let inside = inside-at c in let good = c .before .before .before .before .before .before .before .before .before .before .before .before .before .good in search needs
 
 sub-act : tie.Need-sub-act
 sub-act c = search needs
@@ -73,17 +64,7 @@ part-act-start : tie.Need-part-act-start
 part-act-start c = search needs
 
 part-act-end : tie.Need-part-act-end
-part-act-end c =
-    let tested = c .before .before .before .before .before .before in
-    let given = tested .before .before .before .before .before .before .before .args in
-    let rooms = roomsOf (now (given .store)) (now (given .table)) (now (given .normal)) (now (given .overlay)) (now (given .output)) in
-    let asked = c .before .before .before in
-    let found-at = c .before in
-    let is = sym (asked .read .ensures) ∙ found-at .found .given .1 in
-    let accepted = found-accepted (judgedBy (given .session) rooms (given .last)) (drop (given .place) (now (given .bytes))) is in
-    let inside = ends-within (now (given .bytes)) (given .place) (found-at .found .given .0 .1 .0) (accepted .there) in
-    let good = tested .before .before .before .before .before .before .before .good in
-    search needs
+part-act-end c = let inside = inside-at c in let good = c .before .before .before .before .before .before .before .before .before .before .before .before .before .good in search needs
 
 act-requires : tie.Need-act-requires
 act-requires c κs =
