@@ -1,11 +1,11 @@
 -- Runs of dots that only move the position, and what is left of a run. Assumes nothing.
-use Prim.Native.Nat.{ℕ, zero, suc, _+_, _-_, _<_}
+use Prim.Native.Nat.{ℕ, zero, suc, _+_, _-_, _≤_, _<_}
 use mathlib.Core.Path.{_≡_, refl, ap, sym, _∙_}
-use mathlib.Core.Bool.{Bool, true, false, _&&_}
+use mathlib.Core.Bool.{Bool, true, false, cond, _&&_}
 use mathlib.Core.List.{List, []}
 use native.Mathlib.Omega.{arith}
-use borrow.Author.Tests.{ltb-true, le-ltb}
-use lib.Dec.{ltb}
+use borrow.Author.Tests.{ltb-true, le-ltb, eqb-true}
+use lib.Dec.{ltb, eqb}
 use lib.ListN.{length, set}
 use Rattle.rules.specs.Rule.{ok, refused}
 use Rattle.refusals.specs.Refusal.{numbered}
@@ -22,11 +22,11 @@ use Rattle.chip.specs.State.{controlWord, windowsOf, withPosition, withQ
 use Rattle.chip.specs.Call.{Chip}
 use Rattle.chip.specs.Dot.{signalsOf, drains, target, moved, afterDot, dotted}
 use Rattle.chip.specs.Dots.{afterDots, lastReport, ran}
-use Rattle.chip.specs.Inner.{fit, Leapt}
+use Rattle.chip.specs.Inner.{fit, walk}
 use Rattle.chip.specs.declared.state.State.{State}
 use Rattle.chip.specs.declared.dots.Report.the-variants.{Nothing, Last}
 use Rattle.chip.specs.declared.state.Fit.the-variants.{Yes, Refused}
-use Rattle.chip.proofs.Good.{dot-length, dot-good, placed-good, dots-add}
+use Rattle.chip.proofs.Good.{dot-length, dot-whole, dot-good, placed-good, dots-add}
 use Rattle.chip.proofs.Fit.{fit-on, fit-off}
 
 module _ (state : State) (store : List ℕ) where
@@ -80,38 +80,68 @@ dots-walk count state store =
 
 -- ---- what is left of a run
 
-module _ (count : ℕ) (state : State) (store : List ℕ) (good : goodState state ≡ true) (right : length store ≡ storeLength) (some : 0 < count) where
-  -- where nothing waits, nothing
-  pub leap-none : state .queue .waiting ≡ 0
-      → Leapt (state, store) count (withPosition state (positionAfter (state .at) count (controlWord state 1)), store) 0
+-- dots that only move lead to a good state with some of the dots left, and doing those leaves what doing all leaves
+abbrev Onward : State → ℕ → Walk → Type 0
+Onward state count walk =
+    (goodState (withPosition state (walk .at)) ≡ true)
+    × (walk .left ≤ count)
+    × ((store : List ℕ) → afterDots count (state, store) ≡ afterDots (walk .left) (withPosition state (walk .at), store))
+
+-- on to the next blanked dot
+abbrev to-blank : State → ℕ → Walk
+to-blank state count = walked (windowsOf state) (state .at) (controlWord state 1) count
+
+-- so does the walk of the code
+pub onward : (state : State) (count : ℕ) → goodState state ≡ true → Onward state count (walk state count)
+unfolding walk afterDots
+onward state count good = by (eqb (state .queue .waiting) 0) refl
+  where
+    by : (none : Bool) → eqb (state .queue .waiting) 0 ≡ none
+        → Onward state count (cond none (record { at = positionAfter (state .at) count (controlWord state 1); left = 0 }) (to-blank state count))
+    by true none =
+        (placed-good state count (controlWord state 1) good, omega arith, λ (store : List ℕ). dots-none-wait count state store (eqb-true _ _ none))
+    by false some = (
+      rw (walk-at (windowsOf state) (state .at) (controlWord state 1) count) (placed-good state (count - to-blank state count .left) (controlWord state 1) good),
+      walk-left-le (windowsOf state) (state .at) (controlWord state 1) count,
+      λ (store : List ℕ). dots-walk count state store,
+    )
+
+-- what stays true while dots are left: the sizes, the rule, and where those dots lead
+abbrev pub Underway : Chip → ℕ → Chip → ℕ → Type 0
+Underway start count chip left =
+    (length (chip .1) ≡ length (start .1))
+    × Whole (chip .0)
+    × (goodState (chip .0) ≡ true)
+    × (length (chip .1) ≡ storeLength)
+    × (afterDots left chip ≡ afterDots count start)
+
+module _ (start : Chip) (count : ℕ) (state : State) (store : List ℕ) (left : ℕ) (here : Underway start count (state, store) left) where
+  -- where the walk ends, the dots that are left after it lead where all lead
+  walk-leads : let there = walk state left in
+      afterDots (there .left) (withPosition state (there .at), store) ≡ afterDots count start
+  walk-leads = sym (onward state left (here .2) .2 store) ∙ here .4
+
+  -- a walk that leaves no dot ends the run
+  pub walk-over : walk state left .left ≡ 0
+      → ((withPosition state (walk state left .at), store) ≡ afterDots count start)
+      × (goodState (withPosition state (walk state left .at)) ≡ true)
+      × (length store ≡ storeLength)
   unfolding afterDots
-  leap-none none = (placed-good state count (controlWord state 1) good, right, some, sym (dots-none-wait count state store none))
+  walk-over none =
+      (ap (λ (rest : ℕ). afterDots rest (withPosition state (walk state left .at), store)) (sym none) ∙ walk-leads, onward state left (here .2) .0, here .3)
 
-  -- how far the next blanked dot is
-  abbrev walk : Walk
-  walk = walked (windowsOf state) (state .at) (controlWord state 1) count
-
-  -- there the rule is kept
-  pub there-good : goodState (withPosition state (walk .at)) ≡ true
-  there-good =
-      rw (walk-at (windowsOf state) (state .at) (controlWord state 1) count) (placed-good state (count - walk .left) (controlWord state 1) good)
-
-  -- where no blanked dot comes, nothing
-  pub leap-out : walk .left ≡ 0 → Leapt (state, store) count (withPosition state (walk .at), store) 0
+  -- else the next dot is done, and fewer are left
+  pub walk-on : 0 < walk state left .left
+      → Underway start count (afterDot (withPosition state (walk state left .at), store)) (walk state left .left - 1)
   unfolding afterDots
-  leap-out none =
-      (there-good, right, some, sym (dots-walk count state store ∙ ap (λ (left : ℕ). afterDots left (withPosition state (walk .at), store)) none))
-
-  -- else what comes after the first of them
-  pub leap-blanked : Whole state → 0 < walk .left → Leapt (state, store) count (afterDot (withPosition state (walk .at), store)) (walk .left - 1)
-  unfolding afterDots
-  leap-blanked whole more =
-      let there : Chip = (withPosition state (walk .at), store) in
-      let one-more : walk .left ≡ suc (walk .left - 1) = omega arith in (
-        dot-good there whole there-good,
-        dot-length there ∙ right,
-        omega (arith, walk-left-le (windowsOf state) (state .at) (controlWord state 1) count),
-        sym (dots-walk count state store ∙ ap (λ (left : ℕ). afterDots left there) one-more),
+  walk-on more =
+      let there : Chip = (withPosition state (walk state left .at), store) in
+      let one-more : suc (walk state left .left - 1) ≡ walk state left .left = omega arith in (
+        dot-length there ∙ here .0,
+        dot-whole there (here .1),
+        dot-good there (here .1) (onward state left (here .2) .0),
+        dot-length there ∙ here .3,
+        ap (λ (rest : ℕ). afterDots rest there) one-more ∙ walk-leads,
       )
 
 -- ---- what a dot and a run of dots come to

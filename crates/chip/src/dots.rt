@@ -1,17 +1,17 @@
 // Many dots at once.
-ghost use Prim.Native.Nat.{_<_};
 ghost use mathlib.Core.Path.{_≡_};
 ghost use mathlib.Core.Bool.{true};
 ghost use lib.ListN.{length};
 ghost use Rattle.registers.specs.Store.{storeLength};
 ghost use Rattle.chip.specs.State.{goodState, withPosition};
 ghost use Rattle.chip.specs.Dots.{told, afterDots, ran};
-ghost use Rattle.chip.specs.Inner.{Leapt};
+ghost use Rattle.chip.specs.Inner.{walk};
 use crate::state::Fit;
 use crate::state::State;
 use refusals::Refusal;
 use timing::Position;
 use timing::Signals;
+use timing::Walk;
 
 // What the last of some dots reported; none where there was no dot.
 pub enum Report {
@@ -31,12 +31,6 @@ pub struct Ran {
     pub answer: Answer,
 }
 
-// How far some dots led: the state, and the dots left.
-struct Leap {
-    state: State,
-    left: u32,
-}
-
 impl State {
     // The state at another position.
     fn at_position(mut self, at: Position) -> Self
@@ -46,34 +40,22 @@ impl State {
         self
     }
 
-    // Some of the dots that are left: all where nothing waits, and no more than up to the next write that is applied.
-    fn leap(self, store: &mut [u32], left: u32) -> Leap
-        requires { ⌜ (goodState self ≡ true) × (length (now store) ≡ storeLength) × (0 < left) ⌝ }
-        ensures { λ r. ⌜ Leapt (self, now (store .entry)) left (r .state, now (store .exit)) (r .left) ⌝ }
+    // On over dots that only move: all of them where nothing waits, else those before the next blanked one.
+    fn walk(self, count: u32) -> Walk
+        ensures { λ r. ⌜ r ≡ walk self count ⌝ }
     {
         let at = self.at;
         let total = self.control[1];
         if self.queue.waiting == 0 {
-            return Leap {
-                state: self.at_position(at.after(left, total)),
+            return Walk {
+                at: at.after(count, total),
                 left: 0,
             };
         }
-        let walk = self.windows().to_blank(at, total, left);
-        let there = self.at_position(walk.at);
-        if walk.left == 0 {
-            return Leap {
-                state: there,
-                left: 0,
-            };
-        }
-        Leap {
-            state: there.step(store),
-            left: walk.left - 1,
-        }
+        self.windows().to_blank(at, total, count)
     }
 
-    // What so many dots leave.
+    // What so many dots leave: those that only move are passed over at once.
     fn steps(self, store: &mut [u32], count: u32) -> Self
         requires { ⌜ (goodState self ≡ true) × (length (now store) ≡ storeLength) ⌝ }
         ensures { λ r. ⌜ ((r, now (store .exit)) ≡ afterDots count (self, now (store .entry))) × (goodState r ≡ true) × (length (now (store .exit)) ≡ storeLength) ⌝ }
@@ -81,10 +63,13 @@ impl State {
         let mut state = self;
         let mut left = count;
         while 0 < left {
-            let leap = state.leap(store, left);
-            let next = leap.state;
-            state = next;
-            left = leap.left;
+            let walk = state.walk(left);
+            let there = state.at_position(walk.at);
+            if walk.left == 0 {
+                return there;
+            }
+            state = there.step(store);
+            left = walk.left - 1;
         }
         state
     }

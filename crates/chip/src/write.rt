@@ -7,7 +7,8 @@ ghost use Rattle.registers.specs.Blocks.{count};
 ghost use Rattle.registers.specs.Store.{storeLength};
 ghost use Rattle.queue.specs.Queue.{pushed};
 ghost use Rattle.chip.specs.State.{withWord, withQueue};
-ghost use Rattle.chip.specs.Write.{readOnly, waits, noRoomFor, put, told, written};
+ghost use Rattle.chip.specs.Write.{readOnly, waits, put, told, written};
+ghost use Rattle.chip.specs.Inner.{judged};
 use crate::state::Fit;
 use crate::state::State;
 use queue::Waiting;
@@ -26,6 +27,12 @@ pub enum Answer {
 pub struct Written {
     pub state: State,
     pub answer: Answer,
+}
+
+// What becomes of a write: it goes to a register, or is refused.
+enum Verdict {
+    To(Register),
+    Refused(Refusal),
 }
 
 // Whether a register can only be read: control words 9 and 10.
@@ -50,25 +57,30 @@ fn waits(register: Register) -> bool
     }
 }
 
-impl State {
-    // A refused write: the state as it was.
-    fn refused(self, refusal: Refusal) -> Written
-        ensures { λ r. ⌜ r ≡ record { state = self; answer = Answer.Refused refusal } ⌝ }
-    {
-        Written {
-            state: self,
-            answer: Answer::Refused(refusal),
+// What becomes of a write, by its address and value and by whether the queue is full.
+fn judged(address: u32, value: u32, full: bool) -> Verdict
+    ensures { λ r. ⌜ r ≡ judged address value full ⌝ }
+{
+    let place = registers::place(address);
+    let named = Register::at(address);
+    let Named::Is(register) = named else {
+        return Verdict::Refused(Refusal::NoRegister(place));
+    };
+    if read_only(register) {
+        return Verdict::Refused(Refusal::ReadOnly(place));
+    }
+    if !register.fits(value) {
+        return Verdict::Refused(Refusal::StrayBits(place));
+    }
+    if full {
+        if waits(register) {
+            return Verdict::Refused(Refusal::QueueFull(place));
         }
     }
+    Verdict::To(register)
+}
 
-    // Whether a write to a register would wait and 64 wait already.
-    fn no_room_for(self, register: Register) -> bool
-        ensures { λ r. ⌜ r ≡ noRoomFor self register ⌝ }
-    {
-        let queue = self.queue;
-        if waits(register) { queue.full() } else { false }
-    }
-
+impl State {
     // A value goes into a control word.
     fn with_word(mut self, word: usize, value: u32) -> Self
         requires { ⌜ word < 9 ⌝ }
@@ -113,26 +125,22 @@ impl State {
     {
         let fit = self.fit(store.len());
         if let Fit::Refused(refusal) = fit {
-            return self.refused(refusal);
+            return Written {
+                state: self,
+                answer: Answer::Refused(refusal),
+            };
         }
-        let place = registers::place(address);
-        let named = Register::at(address);
-        let Named::Is(register) = named else {
-            return self.refused(Refusal::NoRegister(place));
-        };
-        if read_only(register) {
-            return self.refused(Refusal::ReadOnly(place));
-        }
-        if !register.fits(value) {
-            return self.refused(Refusal::StrayBits(place));
-        }
-        if self.no_room_for(register) {
-            return self.refused(Refusal::QueueFull(place));
-        }
-        let state = self.put(store, register, value);
-        Written {
-            state,
-            answer: Answer::Done,
+        let queue = self.queue;
+        let verdict = judged(address, value, queue.full());
+        match verdict {
+            Verdict::To(register) => Written {
+                state: self.put(store, register, value),
+                answer: Answer::Done,
+            },
+            Verdict::Refused(refusal) => Written {
+                state: self,
+                answer: Answer::Refused(refusal),
+            },
         }
     }
 }

@@ -1,5 +1,8 @@
 -- `chip::state::State::signals` meets its contract: those of the windows at the position. Assumes nothing.
+use mathlib.Core.Path.{ap, _∙_}
 use borrow.Author.Needs.{needs}
+use Rattle.timing.specs.Signals.{signalsAt}
+use Rattle.timing.specs.declared.Windows.{Windows}
 use Rattle.chip.proofs.state.State.signals.Statement.{statement}
 use Rattle.chip.proofs.state.State.signals.Tie as tie
 
@@ -10,7 +13,7 @@ signals-requires : tie.Need-signals-requires
 signals-requires c κs = search needs
 
 returns : tie.Need-returns
-returns c = cc
+returns c = c .signals .ensures ∙ ap (λ (windows : Windows). signalsAt windows (c .before .before .args .self .at)) (c .before .windows .ensures)
 
 pub signals-spec : {M : Type 1} → statement M
 signals-spec = tie.close (tie.spec windows-requires signals-requires returns)

@@ -1,0 +1,117 @@
+-- `chip::write::judged` meets its contract: each return is a case of the order 1, 2, 3, 4. Assumes nothing.
+use mathlib.Core.Path.{_≡_, ap, sym, _∙_}
+use mathlib.Core.Bool.{Bool, true, false, _&&_}
+use borrow.Author.Needs.{needs}
+use borrow.Author.Tests.{not-true, not-false}
+use Rattle.registers.specs.Named.{named}
+use Rattle.registers.specs.Kept.{fits}
+use Rattle.registers.specs.declared.Named.the-variants.{Is}
+use Rattle.chip.specs.Write.{readOnly, waits}
+use Rattle.chip.proofs.Writes.{judged-nowhere, judged-read-only, judged-stray, judged-full, judged-to}
+use Rattle.chip.proofs.write.judged.Statement.{statement}
+use Rattle.chip.proofs.write.judged.Tie as tie
+
+-- past the first test the address names a register
+there : (c : tie.After-known-told) → named (c .before .before .before .before .before .args .address) ≡ Is (c .before .named .given .0 .0)
+there c = sym (c .before .before .before .at .ensures) ∙ c .before .named .given .1
+
+-- past the second it can be written
+writable : (c : tie.Else1) → readOnly (c .before .before .before .named .given .0 .0) ≡ false
+writable c = sym (c .before .read-only .ensures) ∙ c .if1 .left
+
+-- past the third the value has no stray bits
+clean : (c : tie.Else2) → fits (c .before .before .before .before .before .named .given .0 .0) (c .before .before .before .before .before .before .before .before .before .args .value) ≡ true
+clean c = sym (c .before .fits2 .ensures) ∙ not-false (c .before .fits2 .result) (c .if2 .left)
+
+place-requires : tie.Need-place-requires
+place-requires c κs = search needs
+
+at-requires : tie.Need-at-requires
+at-requires c κs = search needs
+
+enum-known-named : tie.Need-enum-known-named
+enum-known-named c = search needs
+
+enum-told : tie.Need-enum-told
+enum-told c = search needs
+
+returns : tie.Need-returns
+returns c =
+    let a = c .before .before in
+    let s = a .before .before .args in
+    judged-nowhere (s .address) (s .value) (s .full) _ (a .before .place .ensures) (sym (a .at .ensures) ∙ c .enum-told .given .1)
+
+read-only-requires : tie.Need-read-only-requires
+read-only-requires c κs = search needs
+
+returns-2 : tie.Need-returns-2
+returns-2 c =
+    let k = c .before .before in
+    let p = k .before .before .before .before in
+    let s = p .before .args in
+    judged-read-only (s .address) (s .value) (s .full) _ (p .place .ensures) _ (there k) (sym (c .before .read-only .ensures) ∙ c .if1 .taken)
+
+fits-requires : tie.Need-fits-requires
+fits-requires c κs = search needs
+
+returns-3 : tie.Need-returns-3
+returns-3 c =
+    let w = c .before .before in
+    let k = w .before .before in
+    let p = k .before .before .before .before in
+    let s = p .before .args in
+    judged-stray (s .address) (s .value) (s .full) _ (p .place .ensures) _ (there k) (writable w)
+    (sym (c .before .fits2 .ensures) ∙ not-true (c .before .fits2 .result) (c .if2 .taken))
+
+waits-requires : tie.Need-waits-requires
+waits-requires c κs = search needs
+
+returns-4 : tie.Need-returns-4
+returns-4 c =
+    let t = c .before .before in
+    let v = t .before in
+    let w = v .before .before in
+    let k = w .before .before in
+    let p = k .before .before .before .before in
+    let s = p .before .args in
+    judged-full (s .address) (s .value) (s .full) _ (p .place .ensures) _ (there k) (writable w) (clean v)
+    (ap (λ (full : Bool). full && waits (k .before .named .given .0 .0)) (t .if3 .taken) ∙ sym (c .before .waits .ensures) ∙ c .if4 .taken)
+
+returns-5 : tie.Need-returns-5
+returns-5 c =
+    let t = c .before .before in
+    let v = t .before in
+    let w = v .before .before in
+    let k = w .before .before in
+    let p = k .before .before .before .before in
+    let s = p .before .args in
+    judged-to (s .address) (s .value) (s .full) _ (p .place .ensures) _ (there k) (writable w) (clean v)
+    (ap (λ (full : Bool). full && waits (k .before .named .given .0 .0)) (t .if3 .taken) ∙ sym (c .before .waits .ensures) ∙ c .if4 .left)
+
+returns-6 : tie.Need-returns-6
+returns-6 c =
+    let v = c .before in
+    let w = v .before .before in
+    let k = w .before .before in
+    let p = k .before .before .before .before in
+    let s = p .before .args in
+    judged-to (s .address) (s .value) (s .full) _ (p .place .ensures) _ (there k) (writable w) (clean v)
+    (ap (λ (full : Bool). full && waits (k .before .named .given .0 .0)) (c .if3 .left))
+
+pub judged-spec : {M : Type 1} → statement M
+judged-spec =
+    tie.close
+    (tie.spec
+    place-requires
+    at-requires
+    enum-known-named
+    enum-told
+    returns
+    read-only-requires
+    returns-2
+    fits-requires
+    returns-3
+    waits-requires
+    returns-4
+    returns-5
+    returns-6)
