@@ -9,7 +9,7 @@ use Rattle.chip.specs.Call.{Chip}
 use Rattle.chip.specs.Inner.{fit, judged}
 use Rattle.chip.specs.declared.state.Fit.the-variants.{Yes}
 use Rattle.chip.proofs.Fit.{fit-says}
-use Rattle.chip.proofs.Writes.{goes-says, write-unfit, write-refused, write-done}
+use Rattle.chip.proofs.Writes.{goes-says, write-unfit, write-refused, write-goes}
 use Rattle.chip.proofs.state.State.write.Statement.{statement}
 use Rattle.chip.proofs.state.State.write.Tie as tie
 
@@ -70,7 +70,7 @@ returns-2 c =
     let j = k .before .before in
     let s = j .before .before .before .before .before .before .before .args in
     ap (λ (after : Chip). (after, ok tt)) (p .put .ensures)
-    ∙ sym (write-done (s .self, s .store .now) (s .address) (s .value) (going j) _ (verdict-is j ∙ k .verdict .given .1))
+    ∙ sym (write-goes (s .self, s .store .now) (s .address) (s .value) (going j) _ (verdict-is j ∙ k .verdict .given .1))
 
 returns-3 : tie.Need-returns-3
 returns-3 c =

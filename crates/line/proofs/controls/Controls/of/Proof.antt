@@ -60,7 +60,34 @@ field-requires-4 c κs = search needs
 
 returns : tie.Need-returns
 unfolding controlsOf
-returns c = cc
+returns c =
+    let cx = c .before in
+    let height = cx .before in
+    let width = height .before in
+    let top = width .before in
+    let left = top .before in
+    let lines = left .before in
+    let columns = lines .before in
+    let depth = columns .before in
+    let crosshair = depth .before in
+    let cursor = crosshair .before in
+    let ids = cursor .before in
+    λ i.
+    record {
+      overlay = ids .before .switch .ensures i;
+      ids = ids .switch2 .ensures i;
+      cursor = cursor .switch3 .ensures i;
+      crosshair = crosshair .switch4 .ensures i;
+      depth = depth .depth .ensures i;
+      columns = columns .size .ensures i;
+      lines = lines .size2 .ensures i;
+      left = left .field .ensures .0 i;
+      top = top .field2 .ensures .0 i;
+      width = width .size3 .ensures i;
+      height = height .size4 .ensures i;
+      cx = cx .field3 .ensures .0 i;
+      cy = c .field4 .ensures .0 i;
+    }
 
 pub of-spec : {M : Type 1} → statement M
 of-spec =
