@@ -1,4 +1,4 @@
--- What a write comes to, by its verdict and case by case in the order of its faults. Assumes nothing.
+-- What a write comes to, by its verdict. Assumes nothing.
 use Prim.Native.Nat.{ℕ}
 use mathlib.Core.Path.{_≡_, refl, ap, sym, _∙_, subst}
 use mathlib.Core.Bool.{Bool, true, false, false≢true, cond, not, _&&_}
@@ -15,7 +15,7 @@ use Rattle.registers.specs.declared.Named.{Named}
 use Rattle.registers.specs.declared.Named.the-variants.{Is, Nothing}
 use Rattle.queue.specs.Queue.{full}
 use Rattle.chip.specs.Call.{Chip}
-use Rattle.chip.specs.Write.{readOnly, waits, noRoomFor, registerFaults, put, putNamed, written}
+use Rattle.chip.specs.Write.{readOnly, waits, registerFaults, put, putNamed, written}
 use Rattle.chip.specs.Inner.{fit, judgedOn, judged}
 use Rattle.chip.specs.declared.state.Fit.the-variants.{Yes, Refused as Unfit}
 use Rattle.chip.specs.declared.write.Verdict.{Verdict}
@@ -144,33 +144,3 @@ module _ (chip : Chip) (address value : ℕ) where
     pub write-goes : (register : Register) → judged address value (full (chip .0 .queue)) ≡ To register → written chip address value ≡ (put chip register value, ok tt)
     unfolding by-verdict
     write-goes register e = write-judged ∙ ap by-verdict e
-
-    -- a write that may go on, by what its address names
-    write-by : (what : Named) → named address ≡ what → written chip address value ≡ unless (registerFaults chip what (placeOf address) value) chip (putNamed chip what value, tt)
-    unfolding written
-    write-by what e =
-        fit-on (chip .0) (length (chip .1)) (registerFaults chip (named address) (placeOf address) value) chip (putNamed chip (named address) value, tt) fine
-        ∙ ap (λ (what : Named). unless (registerFaults chip what (placeOf address) value) chip (putNamed chip what value, tt)) e
-
-    -- 1
-    pub write-nowhere : named address ≡ Nothing → written chip address value ≡ (chip, refused (numbered (NoRegister (placeOf address))))
-    write-nowhere e = write-by Nothing e
-
-    module _ (register : Register) (there : named address ≡ Is register) where
-      -- 2
-      pub write-read-only : readOnly register ≡ true → written chip address value ≡ (chip, refused (numbered (ReadOnly (placeOf address))))
-      write-read-only only = write-by (Is register) there ∙ simp only refl
-
-      module _ (writable : readOnly register ≡ false) where
-        -- 3
-        pub write-stray : fits register value ≡ false → written chip address value ≡ (chip, refused (numbered (StrayBits (placeOf address))))
-        write-stray stray = write-by (Is register) there ∙ simp (writable, stray) refl
-
-        module _ (clean : fits register value ≡ true) where
-          -- 4
-          pub write-no-room : noRoomFor (chip .0) register ≡ true → written chip address value ≡ (chip, refused (numbered (QueueFull (placeOf address))))
-          write-no-room none = write-by (Is register) there ∙ simp (writable, clean, none) refl
-
-          -- none of them
-          pub write-done : noRoomFor (chip .0) register ≡ false → written chip address value ≡ (put chip register value, ok tt)
-          write-done room = write-by (Is register) there ∙ simp (writable, clean, room) refl

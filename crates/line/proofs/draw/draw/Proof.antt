@@ -14,13 +14,13 @@ use Rattle.line.specs.Inner.{Sized, CheckedTold, Drawable}
 use Rattle.line.specs.declared.setup.Setup.{Setup}
 use Rattle.line.proofs.Result.{controls-sized, drawn-by}
 use Rattle.line.proofs.Whole.{fitted, line-drawn}
-use Rattle.line.proofs.draw.draw.Statement.{statement}
-use Rattle.line.proofs.draw.draw.Tie as tie
 use Rattle.line.proofs.controls.Controls.draw_runs.Reads as draw-runs-reads
 use Rattle.line.proofs.controls.Controls.of.Reads as of-reads
 use Rattle.line.proofs.draw.draw.Reads as reads
 use Rattle.line.proofs.setup.Setup.checked.Reads as checked-reads
 use Rattle.line.proofs.draw.draw.Lts as lts
+use Rattle.line.proofs.draw.draw.Statement.{statement}
+use Rattle.line.proofs.draw.draw.Tie as tie
 
 -- what the line goes by, as the code puts it together
 abbrev setup-at : lts.After-of (good-reads.Asked, good-reads.Learnt, of-reads.Asked, of-reads.Learnt, checked-reads.Asked, checked-reads.Learnt, draw-runs-reads.Asked, draw-runs-reads.Learnt) reads.Pre reads.Post → Setup

@@ -8,11 +8,11 @@ use Rattle.line.specs.Inner.{RunTold}
 use Rattle.line.specs.declared.runs.RunAt.{RunAt}
 use Rattle.line.specs.declared.runs.RunAt.the-variants.{Is}
 use Rattle.line.proofs.Pass.{Passing, pass-start, pass-refused, pass-over, pass-run}
-use Rattle.line.proofs.controls.Controls.check_runs.Statement.{statement}
-use Rattle.line.proofs.controls.Controls.check_runs.Tie as tie
 use Rattle.line.proofs.controls.Controls.run_at.Reads as run-at-reads
 use Rattle.line.proofs.controls.Controls.check_runs.Reads as reads
 use Rattle.line.proofs.controls.Controls.check_runs.Lts as lts
+use Rattle.line.proofs.controls.Controls.check_runs.Statement.{statement}
+use Rattle.line.proofs.controls.Controls.check_runs.Tie as tie
 
 abbrev Inv-loop : tie.InvT-loop
 Inv-loop self store table start x₀ from₀ x from = Passing self store table start x from

@@ -10,12 +10,12 @@ use Rattle.line.specs.Inner.{RunTold}
 use Rattle.line.specs.declared.runs.RunAt.the-variants.{Is}
 use Rattle.line.specs.declared.runs.RunAt.{RunAt}
 use Rattle.line.proofs.Drawing.{Drawing, draw-start, draw-run, normal-reaches, overlay-reaches, output-reaches, none-refused}
-use Rattle.line.proofs.controls.Controls.draw_runs.Statement.{statement}
-use Rattle.line.proofs.controls.Controls.draw_runs.Tie as tie
 use Rattle.line.proofs.controls.Controls.draw_runs.Reads as reads
 use Rattle.line.proofs.controls.Controls.run_at.Reads as run-at-reads
 use Rattle.line.proofs.controls.Controls.screen.Reads as screen-reads
 use Rattle.line.proofs.controls.Controls.draw_runs.Lts as lts
+use Rattle.line.proofs.controls.Controls.draw_runs.Statement.{statement}
+use Rattle.line.proofs.controls.Controls.draw_runs.Tie as tie
 
 abbrev Inv-loop : tie.InvT-loop
 Inv-loop self y store table start normal overlay out₀ screen x₀ from₀ out x from = Drawing self y store table normal overlay start out₀ out x from

@@ -4,10 +4,10 @@ use mathlib.Core.Logic.{⊎-elim}
 use mathlib.Core.Path.{_≡_, refl, _∙_}
 use native.Mathlib.Omega.{arith}
 use borrow.Author.Needs.{needs}
-use Rattle.line.proofs.controls.Controls.normal_length.Statement.{statement}
-use Rattle.line.proofs.controls.Controls.normal_length.Tie as tie
 use Rattle.line.proofs.controls.Controls.normal_length.Reads as reads
 use Rattle.line.proofs.controls.Controls.normal_length.Lts as lts
+use Rattle.line.proofs.controls.Controls.normal_length.Statement.{statement}
+use Rattle.line.proofs.controls.Controls.normal_length.Tie as tie
 
 -- the bytes of a pixel
 bytes-is : (c : lts.After-row-known reads.Pre reads.Post) → c .before .before .if1 .bytes ≡ c .before .before .before .before .args .self .depth / 8

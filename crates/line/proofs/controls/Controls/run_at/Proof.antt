@@ -14,11 +14,11 @@ use Rattle.windows.specs.declared.ids.LookedUp.{LookedUp}
 use Rattle.line.specs.Cells.{lentOf}
 use Rattle.line.specs.Inner.{Served}
 use Rattle.line.proofs.Entries.{entry-no-id, entry-undefined, run-within-line, run-to-end}
-use Rattle.line.proofs.controls.Controls.run_at.Statement.{statement}
-use Rattle.line.proofs.controls.Controls.run_at.Tie as tie
 use Rattle.line.proofs.controls.Controls.id_at.Reads as id-at-reads
 use Rattle.line.proofs.controls.Controls.run_at.Reads as reads
 use Rattle.line.proofs.controls.Controls.run_at.Lts as lts
+use Rattle.line.proofs.controls.Controls.run_at.Statement.{statement}
+use Rattle.line.proofs.controls.Controls.run_at.Tie as tie
 
 -- what the look-up answered, where it found an ID
 found-served :

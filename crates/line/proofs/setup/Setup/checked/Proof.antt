@@ -11,13 +11,13 @@ use Rattle.line.specs.Inner.{fitTold, StartTold, EntriesTold, CheckedTol
 use Rattle.line.specs.Line.{lineFaults}
 use Rattle.line.specs.declared.faults.Fit.{Fit}
 use Rattle.line.proofs.Whole.{fitted, line-unfit, line-no-table, line-no-entry}
-use Rattle.line.proofs.setup.Setup.checked.Statement.{statement}
-use Rattle.line.proofs.setup.Setup.checked.Tie as tie
 use Rattle.line.proofs.controls.Controls.check_runs.Reads as check-runs-reads
 use Rattle.line.proofs.controls.Controls.start.Reads as start-reads
 use Rattle.line.proofs.setup.Setup.checked.Reads as reads
 use Rattle.line.proofs.setup.Setup.fit.Reads as fit-reads
 use Rattle.line.proofs.setup.Setup.checked.Lts as lts
+use Rattle.line.proofs.setup.Setup.checked.Statement.{statement}
+use Rattle.line.proofs.setup.Setup.checked.Tie as tie
 
 -- the first checks passed
 passes :
