@@ -1,5 +1,4 @@
 // One line of the picture.
-ghost use Prim.Native.Nat.{_<_};
 ghost use mathlib.Core.Path.{_≡_};
 ghost use lib.ListN.{length};
 ghost use Rattle.line.specs.Cells.{lentOf};

@@ -1,7 +1,7 @@
 // What each record does.
 ghost use Prim.Native.Nat.{_<_};
 ghost use mathlib.Core.Path.{_≡_};
-ghost use lib.ListN.{length, take};
+ghost use lib.ListN.{take};
 ghost use Rattle.chip.specs.Write.{written};
 ghost use Rattle.chip.specs.Write.{told as toldOfWrite};
 ghost use Rattle.chip.specs.Dots.{ran};

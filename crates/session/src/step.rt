@@ -1,7 +1,5 @@
 // One record of a session.
-ghost use Prim.Native.Nat.{_+_};
 ghost use mathlib.Core.Path.{_≡_};
-ghost use lib.ListN.{length};
 ghost use Rattle.session.specs.Lent.{roomsOf};
 ghost use Rattle.session.specs.Step.{told, sessionStep};
 use crate::fit::Counts;

@@ -1,5 +1,4 @@
 // Frame entries: which line table a line uses.
-ghost use Prim.Native.Nat.{_<_};
 ghost use mathlib.Core.Path.{_≡_};
 ghost use lib.ListN.{length};
 ghost use Rattle.rules.specs.Rule.{run};

@@ -1,5 +1,4 @@
 // Line entries: which ID a pixel has.
-ghost use Prim.Native.Nat.{_<_};
 ghost use mathlib.Core.Path.{_≡_};
 ghost use lib.ListN.{length};
 ghost use Rattle.rules.specs.Rule.{run};
