@@ -28,6 +28,7 @@ use Rattle.session.specs.declared.step.Answer.{Answer}
 use Rattle.session.specs.declared.step.Answer.the-variants as answer
 use Rattle.session.specs.declared.answers.Shows.{Shows}
 use Rattle.session.specs.declared.answers.Shows.the-variants as shown
+use Rattle.pieces.proofs.Calls.{came-of}
 
 -- the refusals of some faults
 abbrev refusalsOf : List Fault → List Numbered
@@ -39,25 +40,20 @@ abbrev shownText : List ℕ → Shows → List ℕ
 shownText output (shown.Entry entry) = text (said entry) output
 shownText output shown.Nothing = []
 
--- what an answer comes to, if it is no refusal of the call
-abbrev cameIn : Outcome Numbered Came → Came
-cameIn (ok came) = came
-cameIn (refused refusal) = waits
-
--- an answer that is none shows the text of what the step comes to
+-- an answer that is no refusal of the call shows the text of what the step comes to
 pub shows-text : (output : List ℕ) (answer : Answer) {came : Came} → told answer ≡ ok came → shownText output (shows answer) ≡ textOf output came
-shows-text output (answer.Listed entry) is = ap (λ (outcome : Outcome Numbered Came). textOf output (cameIn outcome)) is
-shows-text output answer.End is = ap (λ (outcome : Outcome Numbered Came). textOf output (cameIn outcome)) is
-shows-text output answer.More is = ap (λ (outcome : Outcome Numbered Came). textOf output (cameIn outcome)) is
-shows-text output (answer.Stopped refusal) is = ap (λ (outcome : Outcome Numbered Came). textOf output (cameIn outcome)) is
+shows-text output (answer.Listed entry) is = ap (λ (outcome : Outcome Numbered Came). textOf output (came-of waits outcome)) is
+shows-text output answer.End is = ap (λ (outcome : Outcome Numbered Came). textOf output (came-of waits outcome)) is
+shows-text output answer.More is = ap (λ (outcome : Outcome Numbered Came). textOf output (came-of waits outcome)) is
+shows-text output (answer.Stopped refusal) is = ap (λ (outcome : Outcome Numbered Came). textOf output (came-of waits outcome)) is
 shows-text output (answer.Refused refusal) is = impossible cc
 
 -- and the run is over with it exactly where the listing doesn't go on, unless it waits for more bytes
 pub over-goes : (answer : Answer) {came : Came} → told answer ≡ ok came → (came ≡ waits → ⊥) → over answer ≡ not (goesOn came)
-over-goes (answer.Listed entry) is going = ap (λ (outcome : Outcome Numbered Came). not (goesOn (cameIn outcome))) is
-over-goes answer.End is going = ap (λ (outcome : Outcome Numbered Came). not (goesOn (cameIn outcome))) is
-over-goes answer.More is going = absurd (going (ap cameIn (sym is)))
-over-goes (answer.Stopped refusal) is going = ap (λ (outcome : Outcome Numbered Came). not (goesOn (cameIn outcome))) is
+over-goes (answer.Listed entry) is going = ap (λ (outcome : Outcome Numbered Came). not (goesOn (came-of waits outcome))) is
+over-goes answer.End is going = ap (λ (outcome : Outcome Numbered Came). not (goesOn (came-of waits outcome))) is
+over-goes answer.More is going = absurd (going (ap (came-of waits) (sym is)))
+over-goes (answer.Stopped refusal) is going = ap (λ (outcome : Outcome Numbered Came). not (goesOn (came-of waits outcome))) is
 over-goes (answer.Refused refusal) is going = impossible cc
 
 -- an answer that waits shows nothing, and the run isn't over with it

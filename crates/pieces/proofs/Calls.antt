@@ -31,7 +31,7 @@ pub held-again : (rooms : Rooms) (held : Held) → heldIn (sessionOf held) (room
 held-again rooms held = rw (there-again (rooms .table) (held .table), there-again (rooms .normal) (held .normal), there-again (rooms .overlay) (held .overlay)) refl
 
 -- what an answer comes to, where it is no refusal
-abbrev came-of : Came → Outcome Numbered Came → Came
+abbrev pub came-of : Came → Outcome Numbered Came → Came
 came-of other (ok came) = came
 came-of other (declined refusal) = other
 

@@ -24,6 +24,7 @@ use Rattle.records.specs.declared.record.Context.{Context}
 use Rattle.records.specs.declared.record.Found.{Found}
 use Rattle.records.specs.declared.record.Found.the-variants.{Is, More, Refused}
 use Rattle.records.proofs.Tests.{neither}
+use Rattle.records.proofs.Behind.{judgedAt}
 use Rattle.records.proofs.Limits.{table-fits, normal-fits, overlay-fits}
 use Rattle.session.specs.Held.{Held}
 use Rattle.session.specs.Record.{Came, waits, stopped, cameBy, contextOf, stepped}
@@ -94,7 +95,7 @@ body-long bytes place count there =
 module _ (session : Session) (rooms : Rooms) (last : Bool) where
   -- what the record is judged by, as the code puts it together
   abbrev pub judgedBy : Context
-  judgedBy = record { number = session .records; table = session .table; last = last }
+  judgedBy = judgedAt (session .records) (session .table) last
 
   module _ (fit : Fitted session rooms) (unread : List ℕ) where
     -- there is room for the body of each record
@@ -134,7 +135,7 @@ module _ (session : Session) (rooms : Rooms) (bytes : List ℕ) (place : ℕ) (l
   -- what was found by the code's context was found by the session's
   same-found : Within session rooms → found (contextOf (heldIn session rooms) last) (drop place bytes) ≡ found (judgedBy session rooms last) (drop place bytes)
   same-found inside =
-      ap (λ (table : ℕ). found (record { number = session .records; table = table; last = last }) (drop place bytes)) (table-count session rooms inside)
+      ap (λ (table : ℕ). found (judgedAt (session .records) table last) (drop place bytes)) (table-count session rooms inside)
 
   -- what comes of what was found
   came : (answer : Found) → Within session rooms → found (judgedBy session rooms last) (drop place bytes) ≡ answer

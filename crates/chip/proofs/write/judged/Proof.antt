@@ -11,7 +11,7 @@ use Rattle.chip.proofs.Writes.{judged-nowhere, judged-read-only, judged
 use Rattle.chip.proofs.write.judged.Statement.{statement}
 use Rattle.chip.proofs.write.judged.Tie as tie
 
--- past the first test the address names a register
+-- past the first test the address names named-at register
 there : (c : tie.After-known-told) → named (c .before .before .before .before .before .args .address) ≡ Is (c .before .named .given .0 .0)
 there c = sym (c .before .before .before .at .ensures) ∙ c .before .named .given .1
 
@@ -37,30 +37,30 @@ enum-told c = search needs
 
 returns : tie.Need-returns
 returns c =
-    let a = c .before .before in
-    let s = a .before .before .args in
-    judged-nowhere (s .address) (s .value) (s .full) _ (a .before .place .ensures) (sym (a .at .ensures) ∙ c .enum-told .given .1)
+    let named-at = c .before .before in
+    let given = named-at .before .before .args in
+    judged-nowhere (given .address) (given .value) (given .full) _ (named-at .before .place .ensures) (sym (named-at .at .ensures) ∙ c .enum-told .given .1)
 
 read-only-requires : tie.Need-read-only-requires
 read-only-requires c κs = search needs
 
 returns-2 : tie.Need-returns-2
 returns-2 c =
-    let k = c .before .before in
-    let p = k .before .before .before .before in
-    let s = p .before .args in
-    judged-read-only (s .address) (s .value) (s .full) _ (p .place .ensures) _ (there k) (sym (c .before .read-only .ensures) ∙ c .if1 .taken)
+    let register-at = c .before .before in
+    let placed = register-at .before .before .before .before in
+    let given = placed .before .args in
+    judged-read-only (given .address) (given .value) (given .full) _ (placed .place .ensures) _ (there register-at) (sym (c .before .read-only .ensures) ∙ c .if1 .taken)
 
 fits-requires : tie.Need-fits-requires
 fits-requires c κs = search needs
 
 returns-3 : tie.Need-returns-3
 returns-3 c =
-    let w = c .before .before in
-    let k = w .before .before in
-    let p = k .before .before .before .before in
-    let s = p .before .args in
-    judged-stray (s .address) (s .value) (s .full) _ (p .place .ensures) _ (there k) (writable w)
+    let writable-at = c .before .before in
+    let register-at = writable-at .before .before in
+    let placed = register-at .before .before .before .before in
+    let given = placed .before .args in
+    judged-stray (given .address) (given .value) (given .full) _ (placed .place .ensures) _ (there register-at) (writable writable-at)
     (sym (c .before .fits2 .ensures) ∙ not-true (c .before .fits2 .result) (c .if2 .taken))
 
 waits-requires : tie.Need-waits-requires
@@ -68,35 +68,35 @@ waits-requires c κs = search needs
 
 returns-4 : tie.Need-returns-4
 returns-4 c =
-    let t = c .before .before in
-    let v = t .before in
-    let w = v .before .before in
-    let k = w .before .before in
-    let p = k .before .before .before .before in
-    let s = p .before .args in
-    judged-full (s .address) (s .value) (s .full) _ (p .place .ensures) _ (there k) (writable w) (clean v)
-    (ap (λ (full : Bool). full && waits (k .before .named .given .0 .0)) (t .if3 .taken) ∙ sym (c .before .waits .ensures) ∙ c .if4 .taken)
+    let full-at = c .before .before in
+    let clean-at = full-at .before in
+    let writable-at = clean-at .before .before in
+    let register-at = writable-at .before .before in
+    let placed = register-at .before .before .before .before in
+    let given = placed .before .args in
+    judged-full (given .address) (given .value) (given .full) _ (placed .place .ensures) _ (there register-at) (writable writable-at) (clean clean-at)
+    (ap (λ (full : Bool). full && waits (register-at .before .named .given .0 .0)) (full-at .if3 .taken) ∙ sym (c .before .waits .ensures) ∙ c .if4 .taken)
 
 returns-5 : tie.Need-returns-5
 returns-5 c =
-    let t = c .before .before in
-    let v = t .before in
-    let w = v .before .before in
-    let k = w .before .before in
-    let p = k .before .before .before .before in
-    let s = p .before .args in
-    judged-to (s .address) (s .value) (s .full) _ (p .place .ensures) _ (there k) (writable w) (clean v)
-    (ap (λ (full : Bool). full && waits (k .before .named .given .0 .0)) (t .if3 .taken) ∙ sym (c .before .waits .ensures) ∙ c .if4 .left)
+    let full-at = c .before .before in
+    let clean-at = full-at .before in
+    let writable-at = clean-at .before .before in
+    let register-at = writable-at .before .before in
+    let placed = register-at .before .before .before .before in
+    let given = placed .before .args in
+    judged-to (given .address) (given .value) (given .full) _ (placed .place .ensures) _ (there register-at) (writable writable-at) (clean clean-at)
+    (ap (λ (full : Bool). full && waits (register-at .before .named .given .0 .0)) (full-at .if3 .taken) ∙ sym (c .before .waits .ensures) ∙ c .if4 .left)
 
 returns-6 : tie.Need-returns-6
 returns-6 c =
-    let v = c .before in
-    let w = v .before .before in
-    let k = w .before .before in
-    let p = k .before .before .before .before in
-    let s = p .before .args in
-    judged-to (s .address) (s .value) (s .full) _ (p .place .ensures) _ (there k) (writable w) (clean v)
-    (ap (λ (full : Bool). full && waits (k .before .named .given .0 .0)) (c .if3 .left))
+    let clean-at = c .before in
+    let writable-at = clean-at .before .before in
+    let register-at = writable-at .before .before in
+    let placed = register-at .before .before .before .before in
+    let given = placed .before .args in
+    judged-to (given .address) (given .value) (given .full) _ (placed .place .ensures) _ (there register-at) (writable writable-at) (clean clean-at)
+    (ap (λ (full : Bool). full && waits (register-at .before .named .given .0 .0)) (c .if3 .left))
 
 pub judged-spec : {M : Type 1} → statement M
 judged-spec =

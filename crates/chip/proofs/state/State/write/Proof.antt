@@ -14,16 +14,16 @@ use Rattle.chip.proofs.state.State.write.Statement.{statement}
 use Rattle.chip.proofs.state.State.write.Tie as tie
 
 -- past the first test the call may go on
-going : (c : tie.After-judged) → let s = c .before .before .before .before .before .before .before .args in fit (s .self) (length (s .store .now)) ≡ Yes
+going : (c : tie.After-judged) → let given = c .before .before .before .before .before .before .before .args in fit (given .self) (length (given .store .now)) ≡ Yes
 going c = let e = c .before .before .before in sym (e .before .before .fit .ensures) ∙ e .enum-told .given .1
 
 -- the verdict is that of the state's own queue
 verdict-is : (c : tie.After-judged)
-    → let s = c .before .before .before .before .before .before .before .args in
-    judged (s .address) (s .value) (full (s .self .queue)) ≡ c .judged .result
+    → let given = c .before .before .before .before .before .before .before .args in
+    judged (given .address) (given .value) (full (given .self .queue)) ≡ c .judged .result
 verdict-is c =
-    let s = c .before .before .before .before .before .before .before .args in
-    ap (judged (s .address) (s .value)) (sym (c .before .full .ensures)) ∙ sym (c .judged .ensures)
+    let given = c .before .before .before .before .before .before .before .args in
+    ap (judged (given .address) (given .value)) (sym (c .before .full .ensures)) ∙ sym (c .judged .ensures)
 
 fit-requires : tie.Need-fit-requires
 fit-requires c κs = search needs
@@ -33,9 +33,9 @@ enum-known-fit c = search needs
 
 returns : tie.Need-returns
 returns c =
-    let f = c .before .before .before in
-    let s = f .before .before .args in
-    sym (write-unfit (s .self, s .store .now) (s .address) (s .value) _ (sym (f .fit .ensures) ∙ c .before .fit2 .given .1))
+    let tested = c .before .before .before in
+    let given = tested .before .before .args in
+    sym (write-unfit (given .self, given .store .now) (given .address) (given .value) _ (sym (tested .fit .ensures) ∙ c .before .fit2 .given .1))
 
 enum-told : tie.Need-enum-told
 enum-told c = search needs
@@ -51,11 +51,11 @@ enum-known-verdict c = search needs
 
 put-requires : tie.Need-put-requires
 put-requires c κs =
-    let k = c .before .before in
-    let j = k .before .before in
-    let s = j .before .before .before .before .before .before .before .args in
-    let goes = goes-says (s .address) (s .value) (full (s .self .queue)) _ (verdict-is j ∙ k .verdict .given .1) in
-    (goes .1, named-word _ _ (goes .0), fit-says _ _ (going j) .1)
+    let verdict-at = c .before .before in
+    let judged-at = verdict-at .before .before in
+    let given = judged-at .before .before .before .before .before .before .before .args in
+    let goes = goes-says (given .address) (given .value) (full (given .self .queue)) _ (verdict-is judged-at ∙ verdict-at .verdict .given .1) in
+    (goes .1, named-word _ _ (goes .0), fit-says _ _ (going judged-at) .1)
 
 enum-known-verdict-2 : tie.Need-enum-known-verdict-2
 enum-known-verdict-2 c = search needs
@@ -65,19 +65,19 @@ same-length c = search needs
 
 returns-2 : tie.Need-returns-2
 returns-2 c =
-    let p = c .before .before in
-    let k = p .before .before .before in
-    let j = k .before .before in
-    let s = j .before .before .before .before .before .before .before .args in
-    ap (λ (after : Chip). (after, ok tt)) (p .put .ensures)
-    ∙ sym (write-goes (s .self, s .store .now) (s .address) (s .value) (going j) _ (verdict-is j ∙ k .verdict .given .1))
+    let put-at = c .before .before in
+    let verdict-at = put-at .before .before .before in
+    let judged-at = verdict-at .before .before in
+    let given = judged-at .before .before .before .before .before .before .before .args in
+    ap (λ (after : Chip). (after, ok tt)) (put-at .put .ensures)
+    ∙ sym (write-goes (given .self, given .store .now) (given .address) (given .value) (going judged-at) _ (verdict-is judged-at ∙ verdict-at .verdict .given .1))
 
 returns-3 : tie.Need-returns-3
 returns-3 c =
-    let k = c .before in
-    let j = k .before .before in
-    let s = j .before .before .before .before .before .before .before .args in
-    sym (write-refused (s .self, s .store .now) (s .address) (s .value) (going j) _ (verdict-is j ∙ k .verdict2 .given .1))
+    let verdict-at = c .before in
+    let judged-at = verdict-at .before .before in
+    let given = judged-at .before .before .before .before .before .before .before .args in
+    sym (write-refused (given .self, given .store .now) (given .address) (given .value) (going judged-at) _ (verdict-is judged-at ∙ verdict-at .verdict2 .given .1))
 
 pub write-spec : {M : Type 1} → statement M
 write-spec =
