@@ -1,4 +1,11 @@
-/* Bulitampaw: a model of the GBE display back end, for emulators written in C. Link libemulator.a. */
+/* Bulitampaw: a model of the GBE display back end, for emulators written in C. Link libbulitampaw.a.
+
+   Each call is lent what it works on for as long as it runs, and keeps nothing of it. The state goes in and comes back by value; the
+   functions at the end, named bulitampaw_state_ and bulitampaw_session_, take a pointer to it instead and read more easily.
+
+   In every answer number 0 says that the call was done. Any other number is the refusal's, and its place stands beside it. A refused
+   call hands the state back as it was and leaves every word that it was lent. A call checks all it is given but the pointers: each must lead to as many
+   words or bytes as its length says, and what is lent to be changed overlaps nothing else. Where a length is 0 the pointer may be null. */
 #ifndef BULITAMPAW_H
 #define BULITAMPAW_H
 
@@ -9,10 +16,56 @@
 extern "C" {
 #endif
 
-/* How many words the lent store has, how many colour writes can wait, and how many bytes a table of window IDs has at most. */
-#define BULITAMPAW_STORE_WORDS 4963
-#define BULITAMPAW_QUEUE_SLOTS 64
-#define BULITAMPAW_TABLE_BYTES 65536
+/* What each refusal number says, and what its place is. */
+enum {
+    BULITAMPAW_DONE = 0,            /* no refusal */
+    BULITAMPAW_NO_REGISTER = 1,     /* the address names no register or is not a multiple of 4: the address, 24 bits */
+    BULITAMPAW_READ_ONLY = 2,       /* the word can only be read: the address */
+    BULITAMPAW_STRAY_BITS = 3,      /* the value has bits that the register does not keep: the address */
+    BULITAMPAW_QUEUE_FULL = 4,      /* a colour write while 64 wait: the address */
+    BULITAMPAW_WRONG_LENGTH = 5,    /* something lent has a wrong length: one of the places below */
+    BULITAMPAW_NO_LINE = 6,         /* the line is below the active height: the line */
+    BULITAMPAW_NO_FRAME_ENTRY = 7,  /* no frame entry serves the line: the line */
+    BULITAMPAW_NO_LINE_ENTRY = 8,   /* no line entry serves a pixel: its x */
+    BULITAMPAW_UNDEFINED_ENTRY = 9, /* a pixel's window entry is undefined: its x */
+    BULITAMPAW_PAST_TOTAL = 10,     /* origin and size pass the total, either way: 0 */
+    BULITAMPAW_BAD_STATE = 11,      /* the state breaks its rule: 0 */
+    BULITAMPAW_WRONG_RECORD = 12,   /* an unknown tag, a length that the tag does not allow, too many dots: the record */
+    BULITAMPAW_FILE_ENDS = 13,      /* the file ends within a record: the record */
+    BULITAMPAW_TOO_MUCH = 14        /* too many records, or bytes of the table: the record */
+};
+
+/* The places of number 5. */
+enum {
+    BULITAMPAW_STORE = 1,
+    BULITAMPAW_TABLE = 2,
+    BULITAMPAW_NORMAL = 3,
+    BULITAMPAW_OVERLAY = 4,
+    BULITAMPAW_OUTPUT = 5,
+    BULITAMPAW_TEXT = 6             /* a step's alone */
+};
+
+/* How long things are, in words of 32 bits or in bytes. */
+enum {
+    BULITAMPAW_CONTROL_WORDS = 9,   /* that can be written; words 9 and 10 can only be read */
+    BULITAMPAW_QUEUE_SLOTS = 64,    /* colour writes that can wait */
+    BULITAMPAW_STORE_WORDS = 4963,  /* exactly these */
+    BULITAMPAW_TABLE_BYTES = 65536, /* at most; of a step's room exactly, as of the three below */
+    BULITAMPAW_NORMAL_BYTES = 8192,
+    BULITAMPAW_OVERLAY_BYTES = 2048,
+    BULITAMPAW_OUTPUT_WORDS = 2048,
+    BULITAMPAW_TEXT_BYTES = 14368   /* of a step's text at least */
+};
+
+/* Where each block of registers starts, and how many words it has. Bits 31..24 of an address do not count. */
+enum {
+    BULITAMPAW_CONTROL_AT = 0x000000,         /* 11 words */
+    BULITAMPAW_WINDOW_ENTRIES_AT = 0x010000,  /* 32 words of 13 bits */
+    BULITAMPAW_COLOUR_MAP_AT = 0x020000,      /* 4,608 words of 24 bits */
+    BULITAMPAW_GAMMA_MAP_AT = 0x030000,       /* 256 words of 24 bits */
+    BULITAMPAW_CURSOR_GLYPH_AT = 0x040000,    /* 64 words */
+    BULITAMPAW_CURSOR_COLOURS_AT = 0x041000   /* 3 words of 24 bits */
+};
 
 /* Where the beam is. */
 typedef struct {
@@ -30,15 +83,12 @@ typedef struct {
     bulitampaw_waiting slots[BULITAMPAW_QUEUE_SLOTS];
 } bulitampaw_queue;
 
-/* All that the chip holds besides the store. It goes into a call and comes back by value. */
+/* All that the chip holds besides the store. */
 typedef struct {
-    uint32_t control[9];
+    uint32_t control[BULITAMPAW_CONTROL_WORDS];
     bulitampaw_position at;
     bulitampaw_queue queue;
 } bulitampaw_state;
-
-/* In every answer: number 0 says that the call was done; else it is the refusal's number, and the place stands beside it.
-   A refused call hands the state back as it was and leaves all that it was lent. */
 
 /* What a write answers. */
 typedef struct {
@@ -64,37 +114,184 @@ typedef struct {
     uint32_t number, place;
 } bulitampaw_drawn;
 
+/* A recorded session: the chip, how many bytes of the lent table and rows are there, and how many records stood before the next. */
+typedef struct {
+    bulitampaw_state state;
+    size_t table, normal, overlay;
+    uint32_t records;
+} bulitampaw_session;
+
+/* What a step comes to. */
+enum {
+    BULITAMPAW_CAME_REFUSED = 0, /* nothing: the call was refused */
+    BULITAMPAW_CAME_LISTED = 1,  /* a record was run, and its entry of the listing is the text; number and place are the record's */
+    BULITAMPAW_CAME_END = 2,     /* the end record is reached */
+    BULITAMPAW_CAME_MORE = 3,    /* the bytes end within a record, and the file goes on */
+    BULITAMPAW_CAME_STOPPED = 4  /* a fault of the file, 12 to 14, which the text lists: the run is over */
+};
+
+/* What a step answers: where the next record starts, how many bytes of text it put, and what it comes to. */
+typedef struct {
+    bulitampaw_session session;
+    size_t next, text;
+    uint32_t number, place, came;
+} bulitampaw_stepped;
+
 /* A fresh state: all zero, nothing waiting. */
 bulitampaw_state bulitampaw_fresh(void);
 
-/* Writes a value to the register at an address. Refused by 11, 5, 1, 2, 3 or 4, in this order. */
-bulitampaw_written bulitampaw_write(bulitampaw_state state, uint32_t *store, size_t length, uint32_t address, uint32_t value);
+/* Writes a value to the register at an address. A colour write waits in the queue; any other acts at once.
+   Refused by 11, 5, 1, 2, 3 or 4, the first that holds. */
+bulitampaw_written bulitampaw_write(bulitampaw_state state, uint32_t *store, size_t store_length, uint32_t address, uint32_t value);
 
-/* Reads the register at an address. Refused by 11, 5 or 1. */
-bulitampaw_read_back bulitampaw_read(bulitampaw_state state, const uint32_t *store, size_t length, uint32_t address);
+/* Reads the register at an address: kept bits of the stored word, never of a waiting one. Refused by 11, 5 or 1. */
+bulitampaw_read_back bulitampaw_read(bulitampaw_state state, const uint32_t *store, size_t store_length, uint32_t address);
 
 /* One dot: reports the signals at the position, applies the oldest colour write if blanked, and moves. Refused by 11 or 5. */
-bulitampaw_dotted bulitampaw_dot(bulitampaw_state state, uint32_t *store, size_t length);
+bulitampaw_dotted bulitampaw_dot(bulitampaw_state state, uint32_t *store, size_t store_length);
 
 /* So many dots, one after the other; of none nothing is reported. Refused by 11 or 5. */
-bulitampaw_dotted bulitampaw_dots(bulitampaw_state state, uint32_t *store, size_t length, uint32_t count);
+bulitampaw_dotted bulitampaw_dots(bulitampaw_state state, uint32_t *store, size_t store_length, uint32_t count);
 
 /* Draws line y: the first words of the output, as many as the active width, become its colours, and the words past them stay.
    Each colour has red in bits 23..16, green in 15..8 and blue in 7..0. Neither state nor store change.
    Where window IDs are off the table isn't looked at; else it has 65,536 bytes at most. The normal row has exactly 2 bytes a pixel
    at depth 16, 4 at depth 32, big-endian. Where overlay is off its row isn't looked at; else it has exactly one
-   byte a pixel. The output has at least one word a pixel, and overlaps nothing else that is lent.
-   Refused by 11, 10, 6, 5, 7, and then by 8 or 9 at the first pixel from the left that has either fault. Number 5 has the place
-   1 for the store, 2 for the table, 3 for the normal row, 4 for the overlay row, 5 for the output; the lowest is told. */
+   byte a pixel. The output has at least one word a pixel.
+   Refused by 11, 10, 6, 5 at the lowest place, 7, and then by 8 or 9 at the first pixel from the left that has either fault. */
 bulitampaw_drawn bulitampaw_line(bulitampaw_state state, uint32_t y, const uint32_t *store, size_t store_length,
     const uint8_t *table, size_t table_length, const uint8_t *normal, size_t normal_length,
     const uint8_t *overlay, size_t overlay_length, uint32_t *output, size_t output_length);
+
+/* A session before its first record: a fresh chip, table and rows empty. Its store starts all zero; the other rooms may hold anything. */
+bulitampaw_session bulitampaw_fresh_session(void);
+
+/* Runs the record at a place of a session file's bytes, on the lent store, table, rows and output, and puts its text, without a closing
+   zero byte, at the front of the text. The next step goes on at the place that comes back. A last other than 0 says that the file ends with these bytes.
+   Where it comes to BULITAMPAW_CAME_MORE nothing was done: lend the bytes from that place on again, with more behind them or with last set.
+   Refused by 11, where the session holds more than there is room for, or by 5 at the lowest place. Such a refusal is the call's and no line of
+   the listing; what a record is refused for stands in the text, and in number and place. */
+bulitampaw_stepped bulitampaw_step(bulitampaw_session session, const uint8_t *bytes, size_t length, size_t place, uint32_t last,
+    uint32_t *store, size_t store_length, uint8_t *table, size_t table_length, uint8_t *normal, size_t normal_length,
+    uint8_t *overlay, size_t overlay_length, uint32_t *output, size_t output_length, uint8_t *text, size_t text_length);
 
 /* Whether a window entry is defined at a depth: 1 or 0. The low 13 bits of the entry count. At a depth other than 16 or 32 the answer is 0. */
 uint32_t bulitampaw_entry_defined(uint32_t entry, uint32_t depth);
 
 /* Whether a signal holds at p, by its circular window from on to off: 1 or 0. Where on and off are equal the answer is 0. */
 uint32_t bulitampaw_signal_holds(uint32_t on, uint32_t off, uint32_t p);
+
+/* The same calls with a pointer to the state or the session, which they bring up to date. */
+
+/* Why a call was refused; number 0 says that it was done. */
+typedef struct {
+    uint32_t number, place;
+} bulitampaw_refusal;
+
+/* The signals of a dot, each 1 or 0. */
+typedef struct {
+    uint32_t hsync, vsync, blank;
+} bulitampaw_signals;
+
+/* What a line is lent to read besides the store. */
+typedef struct {
+    const uint8_t *table, *normal, *overlay;
+    size_t table_length, normal_length, overlay_length;
+} bulitampaw_planes;
+
+/* All that a step is lent to change. The store starts all zero. */
+typedef struct {
+    uint32_t store[BULITAMPAW_STORE_WORDS];
+    uint8_t table[BULITAMPAW_TABLE_BYTES];
+    uint8_t normal[BULITAMPAW_NORMAL_BYTES];
+    uint8_t overlay[BULITAMPAW_OVERLAY_BYTES];
+    uint32_t output[BULITAMPAW_OUTPUT_WORDS];
+    uint8_t text[BULITAMPAW_TEXT_BYTES];
+} bulitampaw_rooms;
+
+/* What a step comes to, how many bytes of text it put, and the refusal. */
+typedef struct {
+    size_t text;
+    uint32_t came;
+    bulitampaw_refusal refusal;
+} bulitampaw_came;
+
+/* A refusal of this number at this place. */
+static inline bulitampaw_refusal bulitampaw_refused(uint32_t number, uint32_t place)
+{
+    bulitampaw_refusal refusal;
+    refusal.number = number;
+    refusal.place = place;
+    return refusal;
+}
+
+/* A write. The store has BULITAMPAW_STORE_WORDS words, here and below. */
+static inline bulitampaw_refusal bulitampaw_state_write(bulitampaw_state *state, uint32_t *store, uint32_t address, uint32_t value)
+{
+    const bulitampaw_written written = bulitampaw_write(*state, store, BULITAMPAW_STORE_WORDS, address, value);
+    *state = written.state;
+    return bulitampaw_refused(written.number, written.place);
+}
+
+/* A read. The word is 0 where it is refused. */
+static inline bulitampaw_refusal bulitampaw_state_read(const bulitampaw_state *state, const uint32_t *store, uint32_t address, uint32_t *word)
+{
+    const bulitampaw_read_back read = bulitampaw_read(*state, store, BULITAMPAW_STORE_WORDS, address);
+    *word = read.word;
+    return bulitampaw_refused(read.number, read.place);
+}
+
+/* Takes over what dots answered. Where signals isn't null and a dot was made, they become those of the last one. */
+static inline bulitampaw_refusal bulitampaw_reported(bulitampaw_state *state, const bulitampaw_dotted *dotted, bulitampaw_signals *signals)
+{
+    *state = dotted->state;
+    if (signals != NULL && dotted->reported != 0) {
+        signals->hsync = dotted->hsync;
+        signals->vsync = dotted->vsync;
+        signals->blank = dotted->blank;
+    }
+    return bulitampaw_refused(dotted->number, dotted->place);
+}
+
+/* One dot. */
+static inline bulitampaw_refusal bulitampaw_state_dot(bulitampaw_state *state, uint32_t *store, bulitampaw_signals *signals)
+{
+    const bulitampaw_dotted dotted = bulitampaw_dot(*state, store, BULITAMPAW_STORE_WORDS);
+    return bulitampaw_reported(state, &dotted, signals);
+}
+
+/* So many dots. */
+static inline bulitampaw_refusal bulitampaw_state_dots(bulitampaw_state *state, uint32_t *store, uint32_t count, bulitampaw_signals *signals)
+{
+    const bulitampaw_dotted dotted = bulitampaw_dots(*state, store, BULITAMPAW_STORE_WORDS, count);
+    return bulitampaw_reported(state, &dotted, signals);
+}
+
+/* A line, drawn into an output of so many words. */
+static inline bulitampaw_refusal bulitampaw_state_line(const bulitampaw_state *state, uint32_t y, const uint32_t *store,
+    const bulitampaw_planes *planes, uint32_t *output, size_t output_length)
+{
+    const bulitampaw_drawn drawn = bulitampaw_line(*state, y, store, BULITAMPAW_STORE_WORDS,
+        planes->table, planes->table_length, planes->normal, planes->normal_length,
+        planes->overlay, planes->overlay_length, output, output_length);
+    return bulitampaw_refused(drawn.number, drawn.place);
+}
+
+/* A step at a place of some bytes, which becomes that of the next record. The text stands in the rooms. */
+static inline bulitampaw_came bulitampaw_session_step(bulitampaw_session *session, bulitampaw_rooms *rooms,
+    const uint8_t *bytes, size_t length, size_t *place, uint32_t last)
+{
+    const bulitampaw_stepped stepped = bulitampaw_step(*session, bytes, length, *place, last,
+        rooms->store, BULITAMPAW_STORE_WORDS, rooms->table, BULITAMPAW_TABLE_BYTES, rooms->normal, BULITAMPAW_NORMAL_BYTES,
+        rooms->overlay, BULITAMPAW_OVERLAY_BYTES, rooms->output, BULITAMPAW_OUTPUT_WORDS, rooms->text, BULITAMPAW_TEXT_BYTES);
+    bulitampaw_came came;
+    *session = stepped.session;
+    *place = stepped.next;
+    came.text = stepped.text;
+    came.came = stepped.came;
+    came.refusal = bulitampaw_refused(stepped.number, stepped.place);
+    return came;
+}
 
 #ifdef __cplusplus
 }

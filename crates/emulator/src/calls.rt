@@ -1,12 +1,18 @@
-// What C calls: the state goes and comes by value, memory is lent, and a refusal is its number and place.
+// What C calls on the chip: the state goes and comes by value, memory is lent, and a refusal is its number and place.
 ghost use mathlib.Core.Path.{_≡_};
 ghost use Rattle.chip.specs.State.{fresh};
 ghost use Rattle.line.specs.Cells.{lentOf};
-ghost use Rattle.emulator.specs.Answers.{number};
-ghost use Rattle.emulator.specs.Calls.{writtenInNumbers, readInNumbers, reportedBy, unreported, dottedInNumbers, ranInNumbers, drawnInNumbers};
-use chip::dots::Report;
+ghost use Rattle.emulator.specs.Calls.{writtenInNumbers, readInNumbers, dottedInNumbers, ranInNumbers, drawnInNumbers};
+use crate::numbers::in_numbers;
+use crate::numbers::of_dot;
+use crate::numbers::of_dots;
+use crate::numbers::of_line;
+use crate::numbers::of_read;
+use crate::numbers::of_write;
+use crate::numbers::report_of_dot;
+use crate::numbers::report_of_dots;
+use crate::numbers::word_of;
 use chip::state::State;
-use timing::Signals;
 
 // What a write answers. Number 0: it was done.
 #[repr(C)]
@@ -64,19 +70,13 @@ pub extern "C" fn bulitampaw_write(
     ensures { λ r. ⌜ (r, now (store .exit)) ≡ writtenInNumbers (state, now (store .entry)) address value ⌝ }
 {
     let written = state.write(store, address, value);
-    let next = written.state;
     let answer = written.answer;
-    match answer {
-        chip::write::Answer::Done => Written {
-            state: next,
-            number: 0,
-            place: 0,
-        },
-        chip::write::Answer::Refused(refusal) => Written {
-            state: next,
-            number: refusal.number(),
-            place: refusal.place(),
-        },
+    let refusal = of_write(answer);
+    let next = written.state;
+    Written {
+        state: next,
+        number: refusal.number,
+        place: refusal.place,
     }
 }
 
@@ -86,58 +86,15 @@ pub extern "C" fn bulitampaw_read(state: State, store: &[u32], address: u32) -> 
     ensures { λ r. ⌜ r ≡ readInNumbers (state, now (store .entry)) address ⌝ }
 {
     let read = state.read(store, address);
-    let next = read.state;
     let answer = read.answer;
-    match answer {
-        chip::read::Answer::Word(word) => ReadBack {
-            state: next,
-            number: 0,
-            place: 0,
-            word,
-        },
-        chip::read::Answer::Refused(refusal) => ReadBack {
-            state: next,
-            number: refusal.number(),
-            place: refusal.place(),
-            word: 0,
-        },
-    }
-}
-
-// A yes as 1, a no as 0.
-fn number(yes: bool) -> u32
-    ensures { λ r. ⌜ r ≡ number yes ⌝ }
-{
-    if yes { 1 } else { 0 }
-}
-
-// What dots that were done reported.
-fn reported(state: State, signals: Signals) -> Dotted
-    ensures { λ r. ⌜ r ≡ reportedBy state signals ⌝ }
-{
-    Dotted {
-        state,
-        number: 0,
-        place: 0,
-        reported: 1,
-        hsync: number(signals.hsync),
-        vsync: number(signals.vsync),
-        blank: number(signals.blank),
-    }
-}
-
-// No dot reported anything: none was asked for, or it was refused.
-fn unreported(state: State, number: u32, place: u32) -> Dotted
-    ensures { λ r. ⌜ r ≡ unreported state number place ⌝ }
-{
-    Dotted {
-        state,
-        number,
-        place,
-        reported: 0,
-        hsync: 0,
-        vsync: 0,
-        blank: 0,
+    let refusal = of_read(answer);
+    let word = word_of(answer);
+    let next = read.state;
+    ReadBack {
+        state: next,
+        number: refusal.number,
+        place: refusal.place,
+        word,
     }
 }
 
@@ -147,11 +104,18 @@ pub extern "C" fn bulitampaw_dot(state: State, store: &mut [u32]) -> Dotted
     ensures { λ r. ⌜ (r, now (store .exit)) ≡ dottedInNumbers (state, now (store .entry)) ⌝ }
 {
     let dotted = state.dot(store);
-    let next = dotted.state;
     let answer = dotted.answer;
-    match answer {
-        chip::dot::Answer::Reported(signals) => reported(next, signals),
-        chip::dot::Answer::Refused(refusal) => unreported(next, refusal.number(), refusal.place()),
+    let refusal = of_dot(answer);
+    let report = in_numbers(report_of_dot(answer));
+    let next = dotted.state;
+    Dotted {
+        state: next,
+        number: refusal.number,
+        place: refusal.place,
+        reported: report.reported,
+        hsync: report.hsync,
+        vsync: report.vsync,
+        blank: report.blank,
     }
 }
 
@@ -161,14 +125,18 @@ pub extern "C" fn bulitampaw_dots(state: State, store: &mut [u32], count: u32) -
     ensures { λ r. ⌜ (r, now (store .exit)) ≡ ranInNumbers (state, now (store .entry)) count ⌝ }
 {
     let ran = state.dots(store, count);
-    let next = ran.state;
     let answer = ran.answer;
-    match answer {
-        chip::dots::Answer::Reported(report) => match report {
-            Report::Nothing => unreported(next, 0, 0),
-            Report::Last(signals) => reported(next, signals),
-        },
-        chip::dots::Answer::Refused(refusal) => unreported(next, refusal.number(), refusal.place()),
+    let refusal = of_dots(answer);
+    let report = in_numbers(report_of_dots(answer));
+    let next = ran.state;
+    Dotted {
+        state: next,
+        number: refusal.number,
+        place: refusal.place,
+        reported: report.reported,
+        hsync: report.hsync,
+        vsync: report.vsync,
+        blank: report.blank,
     }
 }
 
@@ -186,18 +154,12 @@ pub extern "C" fn bulitampaw_line(
     ensures { λ r. ⌜ (r, now (output .exit)) ≡ drawnInNumbers state y (lentOf (now (store .entry)) (now (table .entry)) (now (normal .entry)) (now (overlay .entry))) (now (output .entry)) ⌝ }
 {
     let drawn = line::draw::draw(state, y, store, table, normal, overlay, output);
-    let next = drawn.state;
     let answer = drawn.answer;
-    match answer {
-        line::draw::Answer::Drawn => Drawn {
-            state: next,
-            number: 0,
-            place: 0,
-        },
-        line::draw::Answer::Refused(refusal) => Drawn {
-            state: next,
-            number: refusal.number(),
-            place: refusal.place(),
-        },
+    let refusal = of_line(answer);
+    let next = drawn.state;
+    Drawn {
+        state: next,
+        number: refusal.number,
+        place: refusal.place,
     }
 }

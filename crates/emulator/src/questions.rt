@@ -1,6 +1,7 @@
 // The two questions: plain numbers in, a plain number out.
 ghost use mathlib.Core.Path.{_≡_};
-ghost use Rattle.emulator.specs.Answers.{entryDefined, signalHolds};
+ghost use Rattle.emulator.specs.Questions.{entryDefined, signalHolds};
+use crate::numbers::number;
 use colour::entry::Decoded;
 
 // Whether a window entry is defined at a depth: 1 or 0.
@@ -20,5 +21,5 @@ pub extern "C" fn bulitampaw_entry_defined(entry: u32, depth: u32) -> u32
 pub extern "C" fn bulitampaw_signal_holds(on: u32, off: u32, p: u32) -> u32
     ensures { λ r. ⌜ r ≡ signalHolds on off p ⌝ }
 {
-    if timing::in_window(on, off, p) { 1 } else { 0 }
+    number(timing::in_window(on, off, p))
 }

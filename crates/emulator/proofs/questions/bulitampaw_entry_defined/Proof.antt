@@ -5,7 +5,8 @@ use borrow.Author.Needs.{needs}
 use Rattle.colour.specs.Entry.{isDefined}
 use Rattle.colour.specs.declared.entry.Decoded.{Decoded}
 use Rattle.colour.proofs.Kept.{decoded-kept}
-use Rattle.emulator.specs.Answers.{number, entryDefined}
+use Rattle.emulator.specs.Numbers.{number}
+use Rattle.emulator.specs.Questions.{entryDefined}
 use Rattle.emulator.proofs.questions.bulitampaw_entry_defined.Statement.{statement}
 use Rattle.emulator.proofs.questions.bulitampaw_entry_defined.Tie as tie
 

@@ -1,13 +1,8 @@
--- What C is answered, in plain numbers: 1 for yes, 0 for no.
+-- The two questions that C asks: 1 for yes, 0 for no.
 use Prim.Native.Nat.{ℕ, _%_, _^_}
-use mathlib.Core.Bool.{Bool, true, false}
 use Rattle.timing.specs.Window.{inWindow}
 use Rattle.colour.specs.Entry.{decoded, isDefined}
-
--- yes and no as numbers
-abbrev pub number : Bool → ℕ
-number true = 1
-number false = 0
+use Rattle.emulator.specs.Numbers.{number}
 
 -- whether an entry, of which the low 13 bits count, is defined at a depth
 unfoldable pub entryDefined : ℕ → ℕ → ℕ

@@ -1,0 +1,54 @@
+-- Answers in plain numbers: 1 for yes and 0 for no; a refusal's number and place, or 0 and 0.
+use Prim.Native.Nat.{ℕ}
+use mathlib.Core.Bool.{Bool, true, false}
+use Rattle.rules.specs.Rule.{Outcome, ok, refused}
+use Rattle.rules.specs.Faults.{Numbered, placeIn}
+use Rattle.timing.specs.declared.Signals.{Signals}
+use Rattle.chip.specs.declared.dots.Report.{Report}
+use Rattle.chip.specs.declared.dots.Report.the-variants.{Nothing, Last}
+use Rattle.emulator.specs.declared.numbers.Refused.{Refused}
+use Rattle.emulator.specs.declared.numbers.Reported.{Reported}
+
+-- yes and no
+abbrev pub number : Bool → ℕ
+number true = 1
+number false = 0
+
+-- nothing is refused
+abbrev pub done : Refused
+done = record { number = 0; place = 0 }
+
+-- a refusal
+abbrev pub refusedBy : Numbered → Refused
+refusedBy refusal = record { number = refusal .number; place = placeIn refusal }
+
+-- what a call is refused by, if it is
+abbrev pub refusalOf : {A : Type 0} → Outcome Numbered A → Refused
+refusalOf (ok answer) = done
+refusalOf (refused refusal) = refusedBy refusal
+
+-- the word that a read answers, or 0
+abbrev pub wordOf : Outcome Numbered ℕ → ℕ
+wordOf (ok word) = word
+wordOf (refused refusal) = 0
+
+-- what a dot reported
+abbrev pub reportOfDot : Outcome Numbered Signals → Report
+reportOfDot (ok signals) = Last signals
+reportOfDot (refused refusal) = Nothing
+
+-- what a run of dots reported
+abbrev pub reportOfDots : Outcome Numbered Report → Report
+reportOfDots (ok report) = report
+reportOfDots (refused refusal) = Nothing
+
+-- a report: whether a dot was made, and the signals of the last one
+abbrev pub inNumbers : Report → Reported
+inNumbers Nothing = record { reported = 0; hsync = 0; vsync = 0; blank = 0 }
+inNumbers (Last signals) =
+    record {
+      reported = 1;
+      hsync = number (signals .hsync);
+      vsync = number (signals .vsync);
+      blank = number (signals .blank);
+    }
