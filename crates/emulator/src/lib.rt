@@ -2,3 +2,4 @@
 pub mod calls;
 mod numbers;
 pub mod questions;
+pub mod steps;
