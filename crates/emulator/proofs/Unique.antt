@@ -1,18 +1,13 @@
 -- No second answer meets a contract of this crate, and none leaves lent memory otherwise. Assumes nothing.
-use Prim.Native.Nat.{ℕ}
-use mathlib.Core.List.{List}
 use denote.Ref.{now}
 use Rattle.rules.specs.Unique.{OneAnswer, OneOutcome}
 use Rattle.rules.proofs.Unique.{by-equation, by-pair}
-use Rattle.session.specs.Lent.{Rooms, roomsOf}
 use Rattle.emulator.proofs.calls.bulitampaw_fresh.Reads as fresh
 use Rattle.emulator.proofs.calls.bulitampaw_write.Reads as write
 use Rattle.emulator.proofs.calls.bulitampaw_read.Reads as read
 use Rattle.emulator.proofs.calls.bulitampaw_dot.Reads as dot
 use Rattle.emulator.proofs.calls.bulitampaw_dots.Reads as dots
 use Rattle.emulator.proofs.calls.bulitampaw_line.Reads as line
-use Rattle.emulator.proofs.steps.bulitampaw_fresh_session.Reads as fresh-session
-use Rattle.emulator.proofs.steps.bulitampaw_step.Reads as step
 use Rattle.emulator.proofs.questions.bulitampaw_entry_defined.Reads as entry-defined
 use Rattle.emulator.proofs.questions.bulitampaw_signal_holds.Reads as signal-holds
 
@@ -39,14 +34,3 @@ dots-unique = by-pair _ (λ k exit. now (exit .1 .0)) _
 
 pub line-unique : OneOutcome (λ k exit. now (exit .1 .1 .1 .1 .1 .1 .0)) line.Post
 line-unique = by-pair _ (λ k exit. now (exit .1 .1 .1 .1 .1 .1 .0)) _
-
-pub fresh-session-unique : OneAnswer fresh-session.Post
-fresh-session-unique = by-equation _ _
-
-pub step-unique : OneOutcome {Memory = Rooms × List ℕ}
-    (λ k exit. (roomsOf (now (exit .1 .1 .1 .1 .0)) (now (exit .1 .1 .1 .1 .1 .0)) (now (exit .1 .1 .1 .1 .1 .1 .0)) (now (exit .1 .1 .1 .1 .1 .1 .1 .0)) (now (exit .1 .1 .1 .1 .1 .1 .1 .1 .0)), now (exit .1 .1 .1 .1 .1 .1 .1 .1 .1 .0)))
-    step.Post
-step-unique =
-    by-pair {Memory = Rooms × List ℕ} _
-    (λ k exit. (roomsOf (now (exit .1 .1 .1 .1 .0)) (now (exit .1 .1 .1 .1 .1 .0)) (now (exit .1 .1 .1 .1 .1 .1 .0)) (now (exit .1 .1 .1 .1 .1 .1 .1 .0)) (now (exit .1 .1 .1 .1 .1 .1 .1 .1 .0)), now (exit .1 .1 .1 .1 .1 .1 .1 .1 .1 .0)))
-    _

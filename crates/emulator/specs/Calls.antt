@@ -3,6 +3,8 @@ use Prim.Native.Nat.{ℕ}
 use mathlib.Core.List.{List}
 use Rattle.rules.specs.Rule.{Outcome}
 use Rattle.rules.specs.Faults.{Numbered}
+use Rattle.plain.specs.Numbers.{refusalOf}
+use Rattle.plain.specs.declared.Refused.{Refused}
 use Rattle.chip.specs.Call.{Chip}
 use Rattle.chip.specs.Write.{written}
 use Rattle.chip.specs.Read.{readBack}
@@ -12,8 +14,7 @@ use Rattle.chip.specs.declared.state.State.{State}
 use Rattle.chip.specs.declared.dots.Report.{Report}
 use Rattle.line.specs.Cells.{Lent}
 use Rattle.line.specs.Drawn.{drawn}
-use Rattle.emulator.specs.Numbers.{refusalOf, wordOf, reportOfDot, reportOfDots, inNumbers}
-use Rattle.emulator.specs.declared.numbers.Refused.{Refused}
+use Rattle.emulator.specs.Reports.{wordOf, reportOfDot, reportOfDots, inNumbers}
 use Rattle.emulator.specs.declared.calls.Written.{Written}
 use Rattle.emulator.specs.declared.calls.ReadBack.{ReadBack}
 use Rattle.emulator.specs.declared.calls.Dotted.{Dotted}

@@ -1,5 +1,3 @@
 pub mod Calls
-pub mod Inner
-pub mod Numbers
 pub mod Questions
-pub mod Steps
+pub mod Reports

@@ -1,8 +1,8 @@
 -- The two questions that C asks: 1 for yes, 0 for no.
 use Prim.Native.Nat.{ℕ, _%_, _^_}
+use Rattle.plain.specs.Numbers.{number}
 use Rattle.timing.specs.Window.{inWindow}
 use Rattle.colour.specs.Entry.{decoded, isDefined}
-use Rattle.emulator.specs.Numbers.{number}
 
 -- whether an entry, of which the low 13 bits count, is defined at a depth
 unfoldable pub entryDefined : ℕ → ℕ → ℕ

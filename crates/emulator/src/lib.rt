@@ -1,5 +1,4 @@
-// What the emulator calls from C: two questions on plain numbers, the calls on the chip, and a session's step.
+// What the emulator calls from C: two questions on plain numbers, and the calls on the chip.
 pub mod calls;
 mod numbers;
 pub mod questions;
-pub mod steps;

@@ -1,20 +1,17 @@
 // The chip's answers in plain numbers.
 ghost use mathlib.Core.Path.{_≡_};
-ghost use Rattle.refusals.specs.Refusal.{numbered};
+ghost use Rattle.plain.specs.Numbers.{refusalOf};
 ghost use Rattle.chip.specs.Write.{told as toldOfWrite};
 ghost use Rattle.chip.specs.Read.{told as toldOfRead};
 ghost use Rattle.chip.specs.Dot.{told as toldOfDot};
 ghost use Rattle.chip.specs.Dots.{told as toldOfDots};
 ghost use Rattle.line.specs.Drawn.{told as toldOfLine};
-ghost use Rattle.emulator.specs.Numbers.{number, done, refusedBy, refusalOf, wordOf, reportOfDot, reportOfDots, inNumbers};
+ghost use Rattle.emulator.specs.Reports.{wordOf, reportOfDot, reportOfDots, inNumbers};
 use chip::dots::Report;
-use refusals::Refusal;
-
-// A refusal's number and place; both 0 where there is none.
-pub struct Refused {
-    pub number: u32,
-    pub place: u32,
-}
+use plain::Refused;
+use plain::nothing;
+use plain::number;
+use plain::refused_by;
 
 // Whether a dot was made, and the signals of the last one, each 1 or 0.
 pub struct Reported {
@@ -24,32 +21,12 @@ pub struct Reported {
     pub blank: u32,
 }
 
-// Nothing is refused.
-pub(crate) fn done() -> Refused
-    ensures { λ r. ⌜ r ≡ done ⌝ }
-{
-    Refused {
-        number: 0,
-        place: 0,
-    }
-}
-
-// A refusal's number and place.
-pub(crate) fn refused_by(refusal: Refusal) -> Refused
-    ensures { λ r. ⌜ r ≡ refusedBy (numbered refusal) ⌝ }
-{
-    Refused {
-        number: refusal.number(),
-        place: refusal.place(),
-    }
-}
-
 // Of a write.
 pub(crate) fn of_write(answer: chip::write::Answer) -> Refused
     ensures { λ r. ⌜ r ≡ refusalOf (toldOfWrite answer) ⌝ }
 {
     match answer {
-        chip::write::Answer::Done => done(),
+        chip::write::Answer::Done => nothing(),
         chip::write::Answer::Refused(refusal) => refused_by(refusal),
     }
 }
@@ -59,7 +36,7 @@ pub(crate) fn of_read(answer: chip::read::Answer) -> Refused
     ensures { λ r. ⌜ r ≡ refusalOf (toldOfRead answer) ⌝ }
 {
     match answer {
-        chip::read::Answer::Word(_) => done(),
+        chip::read::Answer::Word(_) => nothing(),
         chip::read::Answer::Refused(refusal) => refused_by(refusal),
     }
 }
@@ -69,7 +46,7 @@ pub(crate) fn of_dot(answer: chip::dot::Answer) -> Refused
     ensures { λ r. ⌜ r ≡ refusalOf (toldOfDot answer) ⌝ }
 {
     match answer {
-        chip::dot::Answer::Reported(_) => done(),
+        chip::dot::Answer::Reported(_) => nothing(),
         chip::dot::Answer::Refused(refusal) => refused_by(refusal),
     }
 }
@@ -79,7 +56,7 @@ pub(crate) fn of_dots(answer: chip::dots::Answer) -> Refused
     ensures { λ r. ⌜ r ≡ refusalOf (toldOfDots answer) ⌝ }
 {
     match answer {
-        chip::dots::Answer::Reported(_) => done(),
+        chip::dots::Answer::Reported(_) => nothing(),
         chip::dots::Answer::Refused(refusal) => refused_by(refusal),
     }
 }
@@ -89,7 +66,7 @@ pub(crate) fn of_line(answer: line::draw::Answer) -> Refused
     ensures { λ r. ⌜ r ≡ refusalOf (toldOfLine answer) ⌝ }
 {
     match answer {
-        line::draw::Answer::Drawn => done(),
+        line::draw::Answer::Drawn => nothing(),
         line::draw::Answer::Refused(refusal) => refused_by(refusal),
     }
 }
@@ -122,13 +99,6 @@ pub(crate) fn report_of_dots(answer: chip::dots::Answer) -> Report
         chip::dots::Answer::Reported(report) => report,
         chip::dots::Answer::Refused(_) => Report::Nothing,
     }
-}
-
-// A yes as 1, a no as 0.
-pub(crate) fn number(yes: bool) -> u32
-    ensures { λ r. ⌜ r ≡ number yes ⌝ }
-{
-    if yes { 1 } else { 0 }
 }
 
 // A report in numbers.

@@ -1,8 +1,8 @@
 // The two questions: plain numbers in, a plain number out.
 ghost use mathlib.Core.Path.{_≡_};
 ghost use Rattle.emulator.specs.Questions.{entryDefined, signalHolds};
-use crate::numbers::number;
 use colour::entry::Decoded;
+use plain::number;
 
 // Whether a window entry is defined at a depth: 1 or 0.
 #[no_mangle]

@@ -3,9 +3,10 @@ use mathlib.Core.Path.{ap}
 use borrow.Author.Needs.{needs}
 use Rattle.rules.specs.Rule.{Outcome}
 use Rattle.rules.specs.Faults.{Numbered}
+use Rattle.plain.specs.Numbers.{refusalOf}
 use Rattle.timing.specs.declared.Signals.{Signals}
 use Rattle.chip.specs.Call.{Chip}
-use Rattle.emulator.specs.Numbers.{refusalOf, reportOfDot}
+use Rattle.emulator.specs.Reports.{reportOfDot}
 use Rattle.emulator.specs.Calls.{dotsAnswer, dottedInNumbers}
 use Rattle.emulator.proofs.calls.bulitampaw_dot.Statement.{statement}
 use Rattle.emulator.proofs.calls.bulitampaw_dot.Tie as tie

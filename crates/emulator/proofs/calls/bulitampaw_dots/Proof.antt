@@ -3,9 +3,10 @@ use mathlib.Core.Path.{ap}
 use borrow.Author.Needs.{needs}
 use Rattle.rules.specs.Rule.{Outcome}
 use Rattle.rules.specs.Faults.{Numbered}
+use Rattle.plain.specs.Numbers.{refusalOf}
 use Rattle.chip.specs.Call.{Chip}
 use Rattle.chip.specs.declared.dots.Report.{Report}
-use Rattle.emulator.specs.Numbers.{refusalOf, reportOfDots}
+use Rattle.emulator.specs.Reports.{reportOfDots}
 use Rattle.emulator.specs.Calls.{dotsAnswer, ranInNumbers}
 use Rattle.emulator.proofs.calls.bulitampaw_dots.Statement.{statement}
 use Rattle.emulator.proofs.calls.bulitampaw_dots.Tie as tie

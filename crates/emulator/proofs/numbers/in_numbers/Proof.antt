@@ -1,7 +1,7 @@
 -- `emulator::numbers::in_numbers` meets its contract: each signal as a number. Assumes nothing.
 use mathlib.Core.Path.{ap, sym}
 use borrow.Author.Needs.{needs}
-use Rattle.emulator.specs.Numbers.{inNumbers}
+use Rattle.emulator.specs.Reports.{inNumbers}
 use Rattle.emulator.proofs.numbers.in_numbers.Statement.{statement}
 use Rattle.emulator.proofs.numbers.in_numbers.Tie as tie
 

@@ -1,17 +1,17 @@
 -- `emulator::numbers::of_dots` meets its contract: what a run of dots is refused by. Assumes nothing.
 use mathlib.Core.Path.{ap, sym, _∙_}
 use borrow.Author.Needs.{needs}
+use Rattle.plain.specs.Numbers.{refusalOf}
 use Rattle.chip.specs.Dots.{told}
 use Rattle.chip.specs.declared.dots.Answer.{Answer}
-use Rattle.emulator.specs.Numbers.{refusalOf}
 use Rattle.emulator.proofs.numbers.of_dots.Statement.{statement}
 use Rattle.emulator.proofs.numbers.of_dots.Tie as tie
 
 enum-told : tie.Need-enum-told
 enum-told c = search needs
 
-done-requires : tie.Need-done-requires
-done-requires c κs = search needs
+nothing-requires : tie.Need-nothing-requires
+nothing-requires c κs = search needs
 
 enum-known-answer : tie.Need-enum-known-answer
 enum-known-answer c = search needs
@@ -27,4 +27,4 @@ returns-2 c =
     c .refused-by .ensures ∙ ap (λ (answer : Answer). refusalOf (told answer)) (sym (c .before .before .answer .given .1))
 
 pub of-dots-spec : {M : Type 1} → statement M
-of-dots-spec = tie.close (tie.spec enum-told done-requires enum-known-answer refused-by-requires returns returns-2)
+of-dots-spec = tie.close (tie.spec enum-told nothing-requires enum-known-answer refused-by-requires returns returns-2)

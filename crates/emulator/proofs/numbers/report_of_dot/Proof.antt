@@ -3,7 +3,7 @@ use mathlib.Core.Path.{ap, sym}
 use borrow.Author.Needs.{needs}
 use Rattle.chip.specs.Dot.{told}
 use Rattle.chip.specs.declared.dot.Answer.{Answer}
-use Rattle.emulator.specs.Numbers.{reportOfDot}
+use Rattle.emulator.specs.Reports.{reportOfDot}
 use Rattle.emulator.proofs.numbers.report_of_dot.Statement.{statement}
 use Rattle.emulator.proofs.numbers.report_of_dot.Tie as tie
 

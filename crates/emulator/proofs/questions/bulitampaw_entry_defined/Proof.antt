@@ -2,10 +2,10 @@
 use Prim.Native.Nat.{ℕ}
 use mathlib.Core.Path.{sym, ap, _∙_}
 use borrow.Author.Needs.{needs}
+use Rattle.plain.specs.Numbers.{number}
 use Rattle.colour.specs.Entry.{isDefined}
 use Rattle.colour.specs.declared.entry.Decoded.{Decoded}
 use Rattle.colour.proofs.Kept.{decoded-kept}
-use Rattle.emulator.specs.Numbers.{number}
 use Rattle.emulator.specs.Questions.{entryDefined}
 use Rattle.emulator.proofs.questions.bulitampaw_entry_defined.Statement.{statement}
 use Rattle.emulator.proofs.questions.bulitampaw_entry_defined.Tie as tie

@@ -1,7 +1,7 @@
 -- `emulator::questions::bulitampaw_signal_holds` meets its contract: the window rule, as a number. Assumes nothing.
 use mathlib.Core.Path.{ap, _∙_}
 use borrow.Author.Needs.{needs}
-use Rattle.emulator.specs.Numbers.{number}
+use Rattle.plain.specs.Numbers.{number}
 use Rattle.emulator.specs.Questions.{signalHolds}
 use Rattle.emulator.proofs.questions.bulitampaw_signal_holds.Statement.{statement}
 use Rattle.emulator.proofs.questions.bulitampaw_signal_holds.Tie as tie

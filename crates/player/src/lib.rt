@@ -1,0 +1,2 @@
+// What the emulator calls from C to play a recorded session.
+pub mod steps;
