@@ -50,6 +50,11 @@ enum {
     BULITAMPAW_CONTROL_WORDS = 9,   /* that can be written; words 9 and 10 can only be read */
     BULITAMPAW_QUEUE_SLOTS = 64,    /* colour writes that can wait */
     BULITAMPAW_STORE_WORDS = 4963,  /* exactly these */
+    BULITAMPAW_WINDOW_ENTRIES = 32,
+    BULITAMPAW_COLOUR_MAP_WORDS = 4608,
+    BULITAMPAW_GAMMA_MAP_WORDS = 256,
+    BULITAMPAW_CURSOR_GLYPH_WORDS = 64,
+    BULITAMPAW_CURSOR_COLOURS = 3,
     BULITAMPAW_TABLE_BYTES = 65536, /* at most; of a step's room exactly, as of the three below */
     BULITAMPAW_NORMAL_BYTES = 8192,
     BULITAMPAW_OVERLAY_BYTES = 2048,
@@ -57,14 +62,14 @@ enum {
     BULITAMPAW_TEXT_BYTES = 14368   /* of a step's text at least */
 };
 
-/* Where each block of registers starts, and how many words it has. Bits 31..24 of an address do not count. */
+/* The address at which each block of registers starts. Bits 31..24 of an address do not count. */
 enum {
-    BULITAMPAW_CONTROL_AT = 0x000000,         /* 11 words */
-    BULITAMPAW_WINDOW_ENTRIES_AT = 0x010000,  /* 32 words of 13 bits */
-    BULITAMPAW_COLOUR_MAP_AT = 0x020000,      /* 4,608 words of 24 bits */
-    BULITAMPAW_GAMMA_MAP_AT = 0x030000,       /* 256 words of 24 bits */
-    BULITAMPAW_CURSOR_GLYPH_AT = 0x040000,    /* 64 words */
-    BULITAMPAW_CURSOR_COLOURS_AT = 0x041000   /* 3 words of 24 bits */
+    BULITAMPAW_CONTROL_AT = 0x000000,         /* words 0 to 10, of which 9 (room in the queue) and 10 (position) can only be read */
+    BULITAMPAW_WINDOW_ENTRIES_AT = 0x010000,  /* 13 bits each */
+    BULITAMPAW_COLOUR_MAP_AT = 0x020000,      /* 24 bits each */
+    BULITAMPAW_GAMMA_MAP_AT = 0x030000,       /* 24 bits each */
+    BULITAMPAW_CURSOR_GLYPH_AT = 0x040000,    /* 32 bits each */
+    BULITAMPAW_CURSOR_COLOURS_AT = 0x041000   /* 24 bits each */
 };
 
 /* Where the beam is. */
