@@ -1,6 +1,6 @@
 //! How a file that shows a difference is made small.
 
-use crate::recorded;
+use super::recorded;
 
 /// How many bytes of a body are tried one by one.
 const BYTES: usize = 400;
