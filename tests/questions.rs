@@ -25,7 +25,7 @@ impl Asked {
         if library == model {
             return Ok(());
         }
-        let (entry, depth) = shrunk_entry(entry, depth);
+        let entry = shrunk(entry, depth);
         Err(format!("entry {entry:#x} at depth {depth}: library {library}, model {model}\n"))
     }
 
@@ -40,10 +40,10 @@ impl Asked {
 }
 
 /// The entry without the bits that a difference doesn't need.
-fn shrunk_entry(entry: u32, depth: u32) -> (u32, u32) {
+fn shrunk(entry: u32, depth: u32) -> u32 {
     let differs = |entry| library::entry_defined(entry, depth) != u32::from(model::colour::defined(entry, depth));
-    let drop_bit = |entry, bit| if differs(entry & !(1 << bit)) { entry & !(1 << bit) } else { entry };
-    ((0..32).rev().fold(entry, drop_bit), depth)
+    let dropped = |entry: u32, bit: u32| Some(entry & !(1 << bit)).filter(|&less| differs(less)).unwrap_or(entry);
+    (0..32).rev().fold(entry, dropped)
 }
 
 fn main() -> ExitCode {

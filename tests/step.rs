@@ -35,7 +35,7 @@ use pair::Pair;
 use sequences::Sequence;
 
 /// How many steps at least.
-const STEPS: u64 = 1_000_000;
+const STEPS: u64 = 2_000_000;
 
 fn main() -> ExitCode {
     let seed = std::env::args().nth(1).map_or(20_010_417, |word| word.parse().expect("a seed is a number"));
