@@ -73,10 +73,13 @@ fn compare_all(pair: &mut Pair, numbers: &mut Numbers) -> Result<(), String> {
 /// A sequence that shows a difference, made small, and the difference; as a session file too where one shows it.
 fn smallest(sequence: Sequence) -> String {
     let shrunk = sequence.shrunk();
-    let file = shrunk.records().and_then(|records| files::told("chip", &records)).unwrap_or_default();
     match shrunk.run(&mut Pair::new()) {
         Ok(()) => format!("a difference that doesn't come again, {shrunk}"),
-        Err((_, difference)) => format!("{shrunk}{difference}{file}"),
+        Err((_, difference)) => {
+            let words: Vec<_> = difference.words.iter().filter_map(|word| word.index.try_into().ok()).collect();
+            let file = shrunk.records().and_then(|records| files::told("chip", &records, &words));
+            format!("{shrunk}{difference}{}", file.unwrap_or_default())
+        }
     }
 }
 

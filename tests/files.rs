@@ -3,6 +3,8 @@
 // Each test uses a part of it.
 #![allow(dead_code)]
 
+#[path = "session/probes.rs"]
+mod probes;
 #[path = "session/reached.rs"]
 pub mod reached;
 #[path = "session/recorded.rs"]
@@ -21,18 +23,14 @@ use crate::model::step::{Rooms, LISTED, NORMAL_BYTES, OVERLAY_BYTES, STOPPED, TE
 use crate::model::windows::TABLE_BYTES;
 
 /// Records as the smallest file that library and model still list differently, printed as a case and kept under a name.
-/// None where they list the records alike.
-pub fn told(name: &str, records: &[Vec<u8>]) -> Option<String> {
-    let file = records.concat();
-    if !differs(&file) {
-        return None;
-    }
+/// What they don't list is probed: words of the store, and what waits. None where nothing of it differs.
+pub fn told(name: &str, records: &[Vec<u8>], words: &[usize]) -> Option<String> {
+    let unended = records.strip_suffix(&[recorded::END.to_vec()]).unwrap_or(records);
+    let probed = [unended, &probes::probes(words)].concat();
+    let file = [records.concat(), probed.concat()].into_iter().find(|file| differs(file))?;
     let file = ended(shrink::smallest(&file, differs));
-    let kept = format!("target/tests/{name}.session");
-    let kept = match fs::write(&kept, &file) {
-        Ok(()) => format!("kept as {kept}"),
-        Err(error) => format!("{kept}: {error}"),
-    };
+    let path = format!("target/tests/{name}.session");
+    let kept = fs::write(&path, &file).map_or_else(|error| format!("{path}: {error}"), |()| format!("kept as {path}"));
     let case = written::case(name, "As the model lists it.", &file, &of_model(&file));
     let library = written::lines(&of_library(&file));
     Some(format!("as a session file, {kept}:\n{case}but the library lists\n{library}"))

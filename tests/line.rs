@@ -90,6 +90,6 @@ fn random(pair: &mut Pair, numbers: &mut Numbers) -> Result<(), String> {
 /// A line that shows a difference, made small; as a session file too where one shows it.
 fn smallest(difference: Box<Difference>) -> String {
     let shrunk = shrink::smallest(difference);
-    let file = shrunk.case.records().and_then(|records| files::told("line", &records)).unwrap_or_default();
+    let file = shrunk.case.records().and_then(|records| files::told("line", &records, &[])).unwrap_or_default();
     format!("{shrunk}{file}")
 }

@@ -72,10 +72,10 @@ fn compare_all(pair: &mut Pair, numbers: &mut Numbers) -> Result<(), String> {
 /// A sequence that shows a difference, made small, and as a session file where it is one.
 fn smallest(sequence: Sequence) -> String {
     let shrunk = shrink::smallest(sequence);
-    let told = if shrunk.plain() { files::told("step", &recorded::split(&shrunk.file)) } else { None };
-    match (told, shrink::difference(&shrunk)) {
-        (Some(file), _) => file,
-        (None, Some((number, difference))) => format!("{shrunk}step {number}: {difference}"),
-        (None, None) => format!("a difference that doesn't come again, {shrunk}"),
-    }
+    let Some((number, difference)) = shrink::difference(&shrunk) else {
+        return format!("a difference that doesn't come again, {shrunk}");
+    };
+    let records = recorded::split(&shrunk.file);
+    let file = if shrunk.plain() { files::told("step", &records, &difference.words) } else { None };
+    format!("{shrunk}step {number}: {difference}{}", file.unwrap_or_default())
 }

@@ -12,11 +12,8 @@ impl Sequence {
     /// dropped.
     pub fn shrunk(mut self) -> Self {
         self.cut();
-        for plainer in PLAINER {
-            let mut candidate = self.clone();
-            plainer(&mut candidate);
-            self.replace_if_differs(candidate);
-        }
+        self.begin_at_the_last();
+        self.make_start_plainer();
         let mut size = self.steps.len();
         while size > 0 {
             self.drop_runs_of(size);
@@ -27,7 +24,28 @@ impl Sequence {
                 self.make_plainer(number, plainer);
             }
         }
+        self.make_start_plainer();
         self
+    }
+
+    /// Starts from the state before the call that differs, where that call alone differs too.
+    fn begin_at_the_last(&mut self) {
+        let Err((number, difference)) = self.run(&mut Pair::new()) else { return };
+        let steps = vec![Step { damage: Vec::new(), ..self.steps[number].clone() }];
+        self.replace_if_differs(Self { start: difference.before, steps, ..self.clone() });
+    }
+
+    fn make_start_plainer(&mut self) {
+        for plainer in PLAINER {
+            let mut candidate = self.clone();
+            plainer(&mut candidate);
+            self.replace_if_differs(candidate);
+        }
+        for word in 0..9 {
+            let mut candidate = self.clone();
+            candidate.start.control[word] = 0;
+            self.replace_if_differs(candidate);
+        }
     }
 
     /// Makes one step plainer as often as that will do.
@@ -70,16 +88,20 @@ impl Sequence {
 }
 
 /// Ways to make the start plainer.
-const PLAINER: [fn(&mut Sequence); 7] = [
+const PLAINER: [fn(&mut Sequence); 11] = [
     |sequence| sequence.fill = Fill::Zeros,
     |sequence| sequence.start = State::FRESH,
     |sequence| sequence.start.queue = Queue::EMPTY,
+    |sequence| sequence.start.queue.waiting = sequence.start.queue.waiting.min(1),
+    |sequence| sequence.start.queue.waiting = sequence.start.queue.waiting.min(2),
     |sequence| sequence.start.at = Position { x: 0, y: 0 },
+    |sequence| sequence.start.at.x = 0,
+    |sequence| sequence.start.at.y = 0,
     |sequence| sequence.start.control = [0; 9],
     |sequence| sequence.start.control[6..].fill(0),
     |sequence| {
         let Queue { waiting, slots } = &mut sequence.start.queue;
-        slots[*waiting as usize..].fill(Waiting::NONE);
+        slots.iter_mut().skip(*waiting as usize).for_each(|slot| *slot = Waiting::NONE);
     },
 ];
 

@@ -43,7 +43,7 @@ pub fn compare(
     }
     let changed = fewest_changes(pair, case, changed, answer);
     let library = pair.of_library(&changed).answer;
-    let file = changed.records().and_then(|records| files::told("unread", &records)).unwrap_or_default();
+    let file = changed.records().and_then(|records| files::told("unread", &records, &[])).unwrap_or_default();
     let (case, bits) = (case.read_alone(), changed_bits(case, changed));
     Err(format!("{answer}\n  becomes {library}\n  in {case}where bits change that aren't read, {bits}{file}"))
 }

@@ -12,13 +12,16 @@ const GROUPS: usize = 24;
 
 /// A case of this name: what it shows, its bytes and its listing.
 pub fn case(name: &str, shows: &str, file: &[u8], listing: &[u8]) -> String {
-    let mut text = format!("== {name}\n{shows}\n");
-    for record in recorded::split(file) {
-        text.push_str(&in_lines(&groups(&record)));
-    }
-    text.push_str("--\n");
-    text.push_str(&lines(listing));
-    text
+    format!("== {name}\n{shows}\n{}--\n{}", records(file), lines(listing))
+}
+
+/// The bytes of a file, each record in lines of its own, and equal records only once.
+pub fn records(file: &[u8]) -> String {
+    let one = |equal: &[Vec<u8>]| match equal.len() {
+        1 => in_lines(&groups(&equal[0])),
+        times => format!("( {} )*{times}\n", in_lines(&groups(&equal[0])).trim_end()),
+    };
+    recorded::split(file).chunk_by(|one, next| one == next).map(one).collect()
 }
 
 /// The bytes of a record: its tag, its length, and its body by fours or by runs of equal ones.

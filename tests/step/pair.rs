@@ -14,6 +14,8 @@ pub struct Difference {
     pub texts: [Vec<u8>; 2],
     /// Which rooms differ, or what stands around any of them, or that the lent bytes changed.
     pub differing: Vec<&'static str>,
+    /// The words of the store that differ.
+    pub words: Vec<usize>,
 }
 
 pub type Compared<T> = Result<T, Box<Difference>>;
@@ -49,7 +51,8 @@ impl Pair {
         let mut differing = self.library.differing(&self.model);
         differing.extend((lent != *bytes).then_some("lent bytes"));
         let texts = [self.library.text(library.text).to_vec(), self.model.text(model.text).to_vec()];
-        Err(Box::new(Difference { given: given.clone(), library, model, texts, differing }))
+        let words = self.library.differing_words(&self.model);
+        Err(Box::new(Difference { given: given.clone(), library, model, texts, differing, words }))
     }
 
     /// So many bytes of the text, which is the same of both.

@@ -104,6 +104,12 @@ impl Rooms {
         ];
         NAMES.into_iter().zip(alike).filter(|(_, alike)| !alike).map(|(name, _)| name).collect()
     }
+
+    /// The words in which two stores differ.
+    pub fn differing_words(&self, other: &Self) -> Vec<usize> {
+        let stores = self.store.iter().zip(&other.store).skip(MARGIN).enumerate();
+        stores.filter(|(_, (one, other))| one != other).map(|(index, _)| index).collect()
+    }
 }
 
 fn any(seed: u64) -> Box<dyn FnMut() -> u32> {

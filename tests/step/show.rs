@@ -2,7 +2,7 @@
 
 use std::fmt::{self, Display, Formatter};
 
-use crate::files::written::{hex, lines};
+use crate::files::written::{hex, lines, records};
 use crate::model::step::Stepped;
 use crate::pair::Difference;
 use crate::rooms::{NAMES, RIGHT};
@@ -21,7 +21,8 @@ impl Display for Sequence {
             start.records, start.table, start.normal, start.overlay
         )?;
         writeln!(f, "  state {}, rooms {fill:?}", start.state)?;
-        writeln!(f, "  file of {} bytes: {}", file.len(), hex(&file[..file.len().min(SHOWN)]))?;
+        writeln!(f, "  file of {} bytes:", file.len())?;
+        write!(f, "{}", records(file))?;
         for (number, whim) in whims.iter().enumerate() {
             writeln!(f, "  step {number}: {whim:?}")?;
         }
@@ -55,7 +56,7 @@ fn answered(stepped: &Stepped, text: &[u8]) -> String {
 
 impl Display for Difference {
     fn fmt(&self, f: &mut Formatter) -> fmt::Result {
-        let Self { given, library, model, texts: [of_library, of_model], differing } = self;
+        let Self { given, library, model, texts: [of_library, of_model], differing, words } = self;
         write!(f, "{given}")?;
         writeln!(f, "  library: {}", answered(library, of_library))?;
         writeln!(f, "  model:   {}", answered(model, of_model))?;
@@ -64,7 +65,10 @@ impl Display for Difference {
             writeln!(f, "  state after, model:   {}", model.held.state)?;
         }
         for what in differing {
-            writeln!(f, "  the {what} differ, or what stands around them")?;
+            writeln!(f, "  not the same in or around the {what}")?;
+        }
+        if !words.is_empty() {
+            writeln!(f, "  in words {words:?} of the store")?;
         }
         Ok(())
     }
