@@ -2,6 +2,7 @@
 
 #[path = "chip/draw.rs"]
 mod draw;
+mod files;
 mod library;
 mod model;
 mod numbers;
@@ -11,6 +12,8 @@ mod pair;
 mod sequences;
 #[path = "chip/show.rs"]
 mod show;
+#[path = "chip/shrink.rs"]
+mod shrink;
 mod states;
 #[path = "chip/tally.rs"]
 mod tally;
@@ -19,13 +22,14 @@ mod vectors;
 
 use std::process::ExitCode;
 
-use model::frames;
+use model::chip::State;
 use model::registers::STORE_WORDS;
 use numbers::Numbers;
-use pair::{Call, Compared, Pair};
+use pair::{Answer, Call, Compared, Pair};
 use sequences::Sequence;
 
-const SEQUENCES: usize = 15_000;
+/// How many calls of each kind at least.
+const CALLS: u64 = 1_000_000;
 
 fn main() -> ExitCode {
     let seed = std::env::args().nth(1).map_or(20_010_417, |word| word.parse().expect("a seed is a number"));
@@ -46,39 +50,49 @@ fn main() -> ExitCode {
 }
 
 fn compare_all(pair: &mut Pair, numbers: &mut Numbers) -> Result<(), String> {
+    if library::fresh() != State::FRESH {
+        return Err(format!("the fresh state is {}\n", library::fresh()));
+    }
     let vectors = vectors::all();
     for (what, vector) in &vectors {
         vector(pair).map_err(|difference| format!("{what}: {difference}"))?;
     }
     println!("chip from Rust: {} vectors alike", vectors.len());
-    for _ in 0..SEQUENCES {
+    let by_hand = pair.tally.least();
+    let mut sequences = 0;
+    while pair.tally.least() < by_hand + CALLS {
         let sequence = draw::sequence(numbers);
         sequence.run(pair).map_err(|_| smallest(sequence))?;
+        sequences += 1;
     }
-    println!("chip from Rust: {SEQUENCES} sequences alike");
+    println!("chip from Rust: {sequences} random sequences alike");
     runs_while_writes_wait(pair, numbers).map_err(|difference| format!("while writes wait: {difference}"))?;
     long_runs(pair, numbers).map_err(|difference| format!("nothing waits: {difference}"))
 }
 
-/// A sequence that shows a difference, made small, and the difference.
+/// A sequence that shows a difference, made small, and the difference; as a session file too where one shows it.
 fn smallest(sequence: Sequence) -> String {
     let shrunk = sequence.shrunk();
     match shrunk.run(&mut Pair::new()) {
         Ok(()) => format!("a difference that doesn't come again, {shrunk}"),
-        Err((_, difference)) => format!("{shrunk}{difference}"),
+        Err((_, difference)) => {
+            let words: Vec<_> = difference.words.iter().filter_map(|word| word.index.try_into().ok()).collect();
+            let file = shrunk.records().and_then(|records| files::told("chip", &records, &words));
+            format!("{shrunk}{difference}{}", file.unwrap_or_default())
+        }
     }
 }
 
-/// Runs of some hundred thousand dots, in which the queue may drain; the model's long runs are tried here too.
+/// Runs of some hundred thousand dots, in which the queue may drain; the model makes them dot by dot too.
 fn runs_while_writes_wait(pair: &mut Pair, numbers: &mut Numbers) -> Compared<()> {
-    for _ in 0..200 {
+    for _ in 0..400 {
         let (mut state, fill) = (draw::good_state(numbers), draw::fill(numbers));
         let count = numbers.below(1 << 18);
         pair.begin(state, fill);
-        pair.lend(STORE_WORDS, Call::Dots { count })?;
+        let answer = pair.lend(STORE_WORDS, Call::Dots { count })?;
         let mut store = vec![0; STORE_WORDS];
-        frames::dots(&mut state, &mut store, count).expect("a good state isn't refused");
-        assert_eq!(state, pair.state, "by frames");
+        let last = state.dots(&mut store, count).expect("a good state isn't refused");
+        assert!(last.map_or(Answer::DONE, Answer::of_signals) == answer && state == pair.state, "dot by dot");
     }
     Ok(())
 }

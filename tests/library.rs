@@ -1,9 +1,10 @@
-//! The chip of the proved library, called as C calls it.
+//! The proved library, called as C calls it.
 
 // Each test uses a part of it.
 #![allow(dead_code)]
 
 use crate::model::chip::State;
+use crate::model::step::{Held, Rooms, Stepped};
 
 /// What a write answers.
 #[repr(C)]
@@ -67,6 +68,28 @@ extern "C" {
         output: *mut u32,
         output_length: usize,
     ) -> Drawn;
+    fn bulitampaw_fresh_session() -> Held;
+    fn bulitampaw_step(
+        session: Held,
+        bytes: *const u8,
+        length: usize,
+        place: usize,
+        last: u32,
+        store: *mut u32,
+        store_length: usize,
+        table: *mut u8,
+        table_length: usize,
+        normal: *mut u8,
+        normal_length: usize,
+        overlay: *mut u8,
+        overlay_length: usize,
+        output: *mut u32,
+        output_length: usize,
+        text: *mut u8,
+        text_length: usize,
+    ) -> Stepped;
+    fn bulitampaw_entry_defined(entry: u32, depth: u32) -> u32;
+    fn bulitampaw_signal_holds(on: u32, off: u32, p: u32) -> u32;
 }
 
 pub fn fresh() -> State {
@@ -123,4 +146,46 @@ pub fn line(state: State, y: u32, lent: Lent) -> Drawn {
             output.len(),
         )
     }
+}
+
+pub fn fresh_session() -> Held {
+    // SAFETY: nothing in, a value out.
+    unsafe { bulitampaw_fresh_session() }
+}
+
+/// The bytes are borrowed as what may change, so that the caller may look whether they did.
+pub fn step(held: Held, bytes: &mut [u8], place: usize, last: u32, rooms: Rooms) -> Stepped {
+    let Rooms { store, table, normal, overlay, output, text } = rooms;
+    // SAFETY: each part is lent for the call with its own length, and no two overlap.
+    unsafe {
+        bulitampaw_step(
+            held,
+            bytes.as_mut_ptr(),
+            bytes.len(),
+            place,
+            last,
+            store.as_mut_ptr(),
+            store.len(),
+            table.as_mut_ptr(),
+            table.len(),
+            normal.as_mut_ptr(),
+            normal.len(),
+            overlay.as_mut_ptr(),
+            overlay.len(),
+            output.as_mut_ptr(),
+            output.len(),
+            text.as_mut_ptr(),
+            text.len(),
+        )
+    }
+}
+
+pub fn entry_defined(entry: u32, depth: u32) -> u32 {
+    // SAFETY: plain numbers in and out, and the function has no precondition.
+    unsafe { bulitampaw_entry_defined(entry, depth) }
+}
+
+pub fn signal_holds(on: u32, off: u32, p: u32) -> u32 {
+    // SAFETY: as above.
+    unsafe { bulitampaw_signal_holds(on, off, p) }
 }

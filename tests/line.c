@@ -1,26 +1,16 @@
 /* Lines as an emulator draws them, against colours and refusals worked out from the paper by hand. */
-#include <inttypes.h>
-#include <stdio.h>
 #include <string.h>
 
-#include "bulitampaw.h"
+#include "caller.h"
 
 /* The most pixels that a line has here, and a word that no line draws. */
 #define PIXELS 8
 #define OLD 0xDEADBEEFu
 
-static int failures = 0;
 static uint32_t store[BULITAMPAW_STORE_WORDS + 1];
 static uint8_t table[BULITAMPAW_TABLE_BYTES + 1], normal[4 * PIXELS], overlay[PIXELS];
 static size_t store_length, table_length, normal_length, overlay_length, output_length;
 static bulitampaw_state state;
-
-static void same(const char *what, uint32_t got, uint32_t wanted) {
-    if (got != wanted) {
-        printf("%s: got 0x%06" PRIx32 ", wanted 0x%06" PRIx32 "\n", what, got, wanted);
-        failures++;
-    }
-}
 
 /* All zero: one pixel, depth 16, all off. */
 static void begin(void) {
@@ -39,7 +29,7 @@ static void begin(void) {
 static void size(uint32_t width, uint32_t bytes) {
     state.control[1] = 0x0FFF0FFF;
     state.control[7] = 0x000F0000 | (width - 1);
-    normal_length = width * bytes;
+    normal_length = (size_t)width * bytes;
     output_length = width;
 }
 
@@ -177,11 +167,64 @@ static void order(void) {
     refuses("no entry for the second pixel", 14, 8, 1);
 }
 
+/* The wrapper draws what the call draws. */
+static void by_pointer(void) {
+    uint32_t output[3] = {OLD, OLD, OLD};
+    bulitampaw_planes planes = {NULL, normal, NULL, 0, 4, 0};
+    begin();
+    size(2, 2);
+    store[0] = 0x208;
+    normal[1] = 0x1F, normal[2] = 0x03, normal[3] = 0xE0;
+    same("a line by pointer", bulitampaw_state_line(&state, 3, store, &planes, output, 3).number, BULITAMPAW_DONE);
+    same("its red pixel", output[0], 0xFF0000);
+    same("its green pixel", output[1], 0x00FF00);
+    same("the word past it", output[2], OLD);
+    same("line 16", bulitampaw_state_line(&state, 16, store, &planes, output, 3).number, BULITAMPAW_NO_LINE);
+    same("its place", bulitampaw_state_line(&state, 0xFFFFFFFFu, store, &planes, output, 3).place, 0xFFFFFFFFu);
+    same("a short output", bulitampaw_state_line(&state, 3, store, &planes, output, 1).place, BULITAMPAW_OUTPUT);
+    planes.normal_length = 3;
+    same("a short row", bulitampaw_state_line(&state, 3, store, &planes, output, 3).place, BULITAMPAW_NORMAL);
+}
+
+/* The number of a line that is lent nothing. */
+static uint32_t number_of_nothing(uint32_t y) {
+    return bulitampaw_line(state, y, NULL, 0, NULL, 0, NULL, 0, NULL, 0, NULL, 0).number;
+}
+
+/* What a line answers that is lent the first so many of store, normal row, overlay row and output, and no table. */
+static bulitampaw_drawn lent_the_first(size_t parts) {
+    static uint32_t output[1];
+    return bulitampaw_line(state, 0, parts > 0 ? store : NULL, parts > 0 ? BULITAMPAW_STORE_WORDS : 0, NULL, 0,
+        parts > 1 ? normal : NULL, parts > 1 ? 2 : 0, parts > 2 ? overlay : NULL, parts > 2 ? 1 : 0,
+        parts > 3 ? output : NULL, parts > 3 ? 1 : 0);
+}
+
+/* With a length of 0 goes a null pointer: where a part isn't looked at, and where the length is wrong. */
+static void nothing_lent(void) {
+    static const uint32_t missing[] = {BULITAMPAW_STORE, BULITAMPAW_NORMAL, BULITAMPAW_OVERLAY, BULITAMPAW_OUTPUT};
+    uint32_t output[1];
+    begin();
+    same("no table and no overlay row, both off",
+        bulitampaw_line(state, 0, store, BULITAMPAW_STORE_WORDS, NULL, 0, normal, 2, NULL, 0, output, 1).number, BULITAMPAW_DONE);
+    state.control[0] = 3;
+    for (size_t parts = 0; parts < 4; parts++) {
+        same("a part that isn't lent", lent_the_first(parts).number, BULITAMPAW_WRONG_LENGTH);
+        same("its place", lent_the_first(parts).place, missing[parts]);
+    }
+    same("an empty table", lent_the_first(4).number, BULITAMPAW_NO_FRAME_ENTRY);
+    same("before all that a line that isn't there", number_of_nothing(1), BULITAMPAW_NO_LINE);
+    state.control[6] = 1;
+    same("before it origin and size", number_of_nothing(1), BULITAMPAW_PAST_TOTAL);
+    state.at.y = 4096;
+    same("before it the state", number_of_nothing(1), BULITAMPAW_BAD_STATE);
+}
+
 int main(void) {
     whole_case();
     windows();
     layers();
     order();
-    printf("line from C: %s\n", failures == 0 ? "all as the paper says" : "wrong answers");
-    return failures != 0;
+    by_pointer();
+    nothing_lent();
+    return finished("line");
 }

@@ -4,6 +4,7 @@
 mod case;
 #[path = "line/draw.rs"]
 mod draw;
+mod files;
 mod library;
 mod model;
 mod numbers;
@@ -23,11 +24,19 @@ mod vectors;
 
 use std::process::ExitCode;
 
+use case::Case;
 use numbers::Numbers;
-use pair::Pair;
+use pair::{Difference, Pair};
+use unread::Noise;
 
-/// How many random lines, each drawn whole and damaged.
-const LINES: usize = 60_000;
+/// How many random lines, every second one damaged.
+const LINES: usize = 1_000_000;
+
+/// One in so many is drawn again with all changed that it doesn't read.
+const UNREAD: usize = 3;
+
+/// So many lines have most of the store in common.
+const ON_ONE_BACKGROUND: usize = 16;
 
 fn main() -> ExitCode {
     let seed = std::env::args().nth(1).map_or(20_010_417, |word| word.parse().expect("a seed is a number"));
@@ -53,12 +62,34 @@ fn compare_all(pair: &mut Pair, numbers: &mut Numbers) -> Result<(), String> {
         vector(pair).map_err(|difference| format!("{what}: {difference}"))?;
     }
     println!("line from Rust: {} vectors alike", vectors.len());
-    for _ in 0..LINES {
-        for case in [draw::case(numbers), draw::damaged(numbers)] {
-            let answer = pair.lend(&case).map_err(|difference| shrink::smallest(difference).to_string())?;
-            unread::compare(pair, &case, &answer, numbers)?;
+    random(pair, numbers)?;
+    println!("line from Rust: {LINES} random lines alike");
+    Ok(())
+}
+
+/// Random lines, whole and damaged, some of them again with all changed that they don't read.
+fn random(pair: &mut Pair, numbers: &mut Numbers) -> Result<(), String> {
+    let (mut background, mut noise) = (Vec::new(), Noise::new(numbers));
+    for number in 0..LINES {
+        if number % ON_ONE_BACKGROUND == 0 {
+            background = draw::background(numbers);
+        }
+        if number % (1000 * ON_ONE_BACKGROUND) == 0 {
+            noise = Noise::new(numbers);
+        }
+        let draw: fn(&mut Numbers, &[u32]) -> Case = if number % 2 == 0 { draw::case } else { draw::damaged };
+        let case = draw(numbers, &background);
+        let answer = pair.lend(&case).map_err(smallest)?;
+        if number % UNREAD == 0 {
+            unread::compare(pair, &case, &answer, &noise, numbers)?;
         }
     }
-    println!("line from Rust: {} random lines alike, and again with all changed that they don't read", 2 * LINES);
     Ok(())
+}
+
+/// A line that shows a difference, made small; as a session file too where one shows it.
+fn smallest(difference: Box<Difference>) -> String {
+    let shrunk = shrink::smallest(difference);
+    let file = shrunk.case.records().and_then(|records| files::told("line", &records, &[])).unwrap_or_default();
+    format!("{shrunk}{file}")
 }

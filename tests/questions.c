@@ -1,17 +1,5 @@
 /* The two questions as an emulator asks them, against answers worked out from the paper by hand. */
-#include <inttypes.h>
-#include <stdio.h>
-
-#include "bulitampaw.h"
-
-static int failures = 0;
-
-static void same(const char *what, uint32_t got, uint32_t wanted) {
-    if (got != wanted) {
-        printf("%s: got %" PRIu32 ", wanted %" PRIu32 "\n", what, got, wanted);
-        failures++;
-    }
-}
+#include "caller.h"
 
 /* How many of the 8,192 entries are defined at a depth, with other bits set above the 13 that count. */
 static uint32_t defined_entries(uint32_t depth, uint32_t above) {
@@ -50,6 +38,5 @@ int main(void) {
     same("on 2, off 5, at off", bulitampaw_signal_holds(2, 5, 5), 0);
     same("the largest numbers", bulitampaw_signal_holds(0xFFFFFFFFu, 0, 0xFFFFFFFFu), 1);
 
-    printf("questions from C: %d failed\n", failures);
-    return failures != 0;
+    return finished("questions");
 }

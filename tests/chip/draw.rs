@@ -76,10 +76,15 @@ fn entry(numbers: &mut Numbers) -> u32 {
 
 fn step(numbers: &mut Numbers, mix: &[Draw]) -> Step {
     let call = numbers.pick(mix)(numbers);
-    let length = if numbers.one_in(32) { numbers.pick(&[0, 1, 4962, 4964]) } else { STORE_WORDS };
+    let length = if numbers.one_in(32) { wrong_length(numbers) } else { STORE_WORDS };
     let damage =
         if numbers.one_in(16) { (0..=numbers.below(2)).map(|_| damage(numbers)).collect() } else { Vec::new() };
     Step { damage, length, call }
+}
+
+fn wrong_length(numbers: &mut Numbers) -> usize {
+    let (less, more) = (numbers.below(4963) as usize, 4964 + numbers.below(60) as usize);
+    numbers.pick(&[0, 1, 4962, 4964, less, more])
 }
 
 fn damage(numbers: &mut Numbers) -> Damage {
@@ -103,11 +108,12 @@ fn around(numbers: &mut Numbers, bound: u32) -> u32 {
 type Draw = fn(&mut Numbers) -> Call;
 
 /// What kinds of calls a sequence is made of.
-const MIXES: [&[Draw]; 4] = [
-    &[control_write, colour_write, any_write, any_read, one_dot, run_of_dots],
+const MIXES: [&[Draw]; 5] = [
+    &[control_write, colour_write, any_write, any_read, any_read, one_dot, run_of_dots],
     &[colour_write, colour_write, colour_write, colour_write, any_write, any_read, one_dot],
-    &[colour_write, colour_write, any_read, one_dot, run_of_dots],
-    &[control_write, colour_write, one_dot, run_of_dots, run_of_dots],
+    &[colour_write, any_read, any_read, one_dot, one_dot, run_of_dots],
+    &[control_write, colour_write, any_read, one_dot, run_of_dots, run_of_dots],
+    &[any_write, any_read, any_read, one_dot, run_of_dots, run_of_dots, run_of_dots],
 ];
 
 fn control_write(numbers: &mut Numbers) -> Call {
@@ -134,9 +140,15 @@ fn one_dot(_: &mut Numbers) -> Call {
     Call::Dot
 }
 
+/// Mostly short; the longest that there can be is met too.
 fn run_of_dots(numbers: &mut Numbers) -> Call {
     let bound = numbers.pick(&[1, 2, 12, 12, 80, 80, 200, 2000]);
-    Call::Dots { count: numbers.below(bound) }
+    let count = match numbers.below(64) {
+        0 => numbers.next() >> numbers.below(16),
+        1 => u32::MAX - numbers.below(3),
+        _ => numbers.below(bound),
+    };
+    Call::Dots { count }
 }
 
 /// Seldom a bit that may be outside the kept ones.

@@ -2,14 +2,14 @@
 
 use crate::library;
 use crate::model::beam::Signals;
-use crate::model::chip::{Refusal, State};
+use crate::model::chip::State;
 use crate::model::frames;
 use crate::model::registers::STORE_WORDS;
 use crate::numbers::Numbers;
 use crate::tally::Tally;
 
 /// One call on the chip.
-#[derive(Clone, Copy)]
+#[derive(Clone, Copy, PartialEq, Eq)]
 pub enum Call {
     Write { address: u32, value: u32 },
     Read { address: u32 },
@@ -41,7 +41,7 @@ impl Answer {
         Self { values: [1, hsync.into(), vsync.into(), blank.into()], ..Self::DONE }
     }
 
-    fn of_signals(signals: Signals) -> Self {
+    pub fn of_signals(signals: Signals) -> Self {
         Self::reported(signals.hsync, signals.vsync, signals.blank)
     }
 }
@@ -80,21 +80,10 @@ impl Call {
             Self::Read { address } => state.read(store, address).map(Answer::word),
             Self::Dot => state.dot(store).map(Answer::of_signals),
             Self::Dots { count } => {
-                run(&mut state, store, count).map(|last| last.map_or(Answer::DONE, Answer::of_signals))
+                frames::dots(&mut state, store, count).map(|last| last.map_or(Answer::DONE, Answer::of_signals))
             }
         };
         Outcome { state, answer: answer.unwrap_or_else(|(number, place)| Answer::refused(number, place)) }
-    }
-}
-
-/// The longest run that the model makes dot by dot.
-const LONGEST_LOOP: u32 = 1 << 24;
-
-fn run(state: &mut State, store: &mut [u32], count: u32) -> Result<Option<Signals>, Refusal> {
-    if count <= LONGEST_LOOP {
-        state.dots(store, count)
-    } else {
-        frames::dots(state, store, count)
     }
 }
 

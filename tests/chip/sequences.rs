@@ -1,12 +1,12 @@
-//! Sequences of calls, and how one that shows a difference is made small.
+//! Sequences of calls.
 
-use crate::model::beam::Position;
+use crate::files::{reached, recorded};
 use crate::model::chip::State;
-use crate::model::queue::{Queue, Waiting};
+use crate::model::registers::STORE_WORDS;
 use crate::pair::{Call, Compared, Difference, Fill, Pair};
 
 /// A change to a state before it is lent.
-#[derive(Clone, Copy)]
+#[derive(Clone, Copy, PartialEq, Eq)]
 pub enum Damage {
     Control { word: usize, bit: u32 },
     X(u32),
@@ -30,12 +30,15 @@ impl Damage {
 }
 
 /// A call, with what it is lent.
-#[derive(Clone)]
+#[derive(Clone, PartialEq, Eq)]
 pub struct Step {
     pub damage: Vec<Damage>,
     pub length: usize,
     pub call: Call,
 }
+
+/// The longest run while something waits, for its time may grow with every dot.
+const LONGEST_WHILE_WAITING: u32 = 1 << 12;
 
 impl Step {
     /// Damage that is refused is taken back, so that the sequence goes on.
@@ -44,7 +47,13 @@ impl Step {
         for damage in &self.damage {
             damage.put_into(&mut pair.state);
         }
-        if pair.lend(self.length, self.call)?.number == 11 {
+        let call = match self.call {
+            Call::Dots { count } if pair.state.queue.waiting > 0 => {
+                Call::Dots { count: count.min(LONGEST_WHILE_WAITING) }
+            }
+            call => call,
+        };
+        if pair.lend(self.length, call)?.number == 11 {
             pair.state = whole;
         }
         Ok(())
@@ -69,59 +78,25 @@ impl Sequence {
         Ok(())
     }
 
-    /// A sequence that still shows a difference: a plainer start where one will do, and no call that can be dropped.
-    pub fn shrunk(mut self) -> Self {
-        self.cut();
-        for plainer in PLAINER {
-            let mut candidate = self.clone();
-            plainer(&mut candidate);
-            self.replace_if_differs(candidate);
-        }
-        let mut size = self.steps.len();
-        while size > 0 {
-            self.drop_runs_of(size);
-            size /= 2;
-        }
-        self
-    }
-
-    /// Drops what comes after the first difference; answers whether there is one.
-    fn cut(&mut self) -> bool {
-        let Err((number, _)) = self.run(&mut Pair::new()) else { return false };
-        self.steps.truncate(number + 1);
-        true
-    }
-
-    fn replace_if_differs(&mut self, mut candidate: Self) -> bool {
-        let differs = candidate.cut();
-        if differs {
-            *self = candidate;
-        }
-        differs
-    }
-
-    fn drop_runs_of(&mut self, size: usize) {
-        let mut from = 0;
-        while from < self.steps.len() {
-            let mut candidate = self.clone();
-            candidate.steps.drain(from..self.steps.len().min(from + size));
-            if !self.replace_if_differs(candidate) {
-                from += size;
+    /// The sequence as records of a session, without its reads, of which no record tells. None where calls are lent what
+    /// no session lends.
+    pub fn records(&self) -> Option<Vec<Vec<u8>>> {
+        let mut pair = Pair::new();
+        pair.begin(self.start, self.fill);
+        let store: Vec<u32> = (0..STORE_WORDS).map(|index| pair.stored(index)).collect();
+        let mut records = reached::records(&self.start, &store)?;
+        for Step { damage, length, call } in &self.steps {
+            if !damage.is_empty() || *length != STORE_WORDS {
+                return None;
             }
+            records.extend(match *call {
+                Call::Write { address, value } => Some(recorded::write(address, value)),
+                Call::Read { .. } => None,
+                Call::Dot => Some(recorded::dots(1)),
+                Call::Dots { count } => Some(recorded::dots(count)),
+            });
         }
+        records.push(recorded::END.to_vec());
+        Some(records)
     }
 }
-
-/// Ways to make the start plainer.
-const PLAINER: [fn(&mut Sequence); 7] = [
-    |sequence| sequence.fill = Fill::Zeros,
-    |sequence| sequence.start = State::FRESH,
-    |sequence| sequence.start.queue = Queue::EMPTY,
-    |sequence| sequence.start.at = Position { x: 0, y: 0 },
-    |sequence| sequence.start.control = [0; 9],
-    |sequence| sequence.start.control[6..].fill(0),
-    |sequence| {
-        let Queue { waiting, slots } = &mut sequence.start.queue;
-        slots[*waiting as usize..].fill(Waiting::NONE);
-    },
-];

@@ -27,6 +27,11 @@ impl Tally {
         }
         self.refused[answer.number as usize] += 1;
     }
+
+    /// How many calls there were of the kind that was called least.
+    pub fn least(&self) -> u64 {
+        [self.writes, self.reads, self.dots, self.runs].into_iter().min().unwrap_or(0)
+    }
 }
 
 impl fmt::Display for Tally {

@@ -1,8 +1,11 @@
 //! A line and all that it is lent.
 
+use crate::files::{reached, recorded};
 use crate::model::chip::{Refusal, State};
 use crate::model::line::Lent;
 use crate::model::reads::{reads, Reads};
+use crate::model::step::{NORMAL_BYTES, OVERLAY_BYTES};
+use crate::model::windows::TABLE_BYTES;
 
 /// A control word of two fields.
 pub fn fields(low: u32, high: u32) -> u32 {
@@ -45,6 +48,19 @@ impl Case {
             overlay: kept(&self.overlay, &reads.overlay),
             ..self.clone()
         }
+    }
+
+    /// The case as records of a session. None where it is lent what no session lends; of the store only kept bits count.
+    pub fn records(&self) -> Option<Vec<Vec<u8>>> {
+        let Self { state, y, store, table, normal, overlay, output: _ } = self;
+        if table.len() > TABLE_BYTES || normal.len() > NORMAL_BYTES || overlay.len() > OVERLAY_BYTES {
+            return None;
+        }
+        let line = recorded::line(u16::try_from(*y).ok()?);
+        let mut records = reached::records(state, store)?;
+        records.extend(table.chunks(usize::from(u16::MAX)).map(recorded::table));
+        records.extend([recorded::normal(normal), recorded::overlay(overlay), line, recorded::END.to_vec()]);
+        Some(records)
     }
 
     pub fn width(&self) -> u32 {

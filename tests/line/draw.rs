@@ -9,8 +9,8 @@ use crate::model::registers::{COLOUR_ENTRIES, COLOUR_KEPT, CONTROL_KEPT, STORE_W
 use crate::model::store::CURSOR_GLYPH;
 use crate::numbers::Numbers;
 
-/// A line that is mostly drawn, with garbage in every bit that isn't kept.
-pub fn case(numbers: &mut Numbers) -> Case {
+/// A line that is mostly drawn, with garbage in every bit that isn't kept. Its store is mostly that of the background.
+pub fn case(numbers: &mut Numbers, background: &[u32]) -> Case {
     let (width, height) = (width(numbers), height(numbers));
     let y = match numbers.below(4) {
         0 => 0,
@@ -23,7 +23,7 @@ pub fn case(numbers: &mut Numbers) -> Case {
     Case {
         state,
         y,
-        store: store(numbers, depth),
+        store: store(numbers, background, depth),
         table: if ids_on || numbers.one_in(4) { table(numbers, y, width) } else { Vec::new() },
         normal: bytes(numbers, width * depth / 8),
         overlay: if overlay_on { overlay(numbers, width) } else { any_row(numbers) },
@@ -35,8 +35,8 @@ pub fn case(numbers: &mut Numbers) -> Case {
 }
 
 /// The same with a fault or two put in, which may be one that doesn't count.
-pub fn damaged(numbers: &mut Numbers) -> Case {
-    let mut case = case(numbers);
+pub fn damaged(numbers: &mut Numbers, background: &[u32]) -> Case {
+    let mut case = case(numbers, background);
     for _ in 0..=numbers.below(2) {
         numbers.pick(&DAMAGE)(&mut case, numbers);
     }
@@ -44,10 +44,10 @@ pub fn damaged(numbers: &mut Numbers) -> Case {
 }
 
 fn width(numbers: &mut Numbers) -> u32 {
-    match numbers.below(32) {
+    match numbers.below(64) {
         0 => 2048 - numbers.below(3),
         1 => 1 + numbers.below(2048),
-        2..=5 => 1 + numbers.below(100),
+        2..=9 => 1 + numbers.below(100),
         _ => 1 + numbers.below(20),
     }
 }
@@ -105,15 +105,26 @@ fn queue(numbers: &mut Numbers) -> Queue {
     queue
 }
 
-fn store(numbers: &mut Numbers, depth: u32) -> Vec<u32> {
+/// A store with anything in it, and about half of the glyph transparent.
+pub fn background(numbers: &mut Numbers) -> Vec<u32> {
     let mut store = words(numbers, STORE_WORDS as u32);
+    for word in &mut store[CURSOR_GLYPH..CURSOR_GLYPH + 64] {
+        *word &= numbers.next();
+    }
+    store
+}
+
+/// The background with window entries that are mostly defined, and some other words changed.
+fn store(numbers: &mut Numbers, background: &[u32], depth: u32) -> Vec<u32> {
+    let mut store = background.to_vec();
     for word in &mut store[..32] {
+        *word = numbers.next();
         while !defined(*word, depth) && !numbers.one_in(100) {
             *word = numbers.next();
         }
     }
-    for word in &mut store[CURSOR_GLYPH..CURSOR_GLYPH + 64] {
-        *word &= numbers.next();
+    for _ in 0..16 {
+        store[32 + numbers.below(STORE_WORDS as u32 - 32) as usize] = numbers.next();
     }
     store
 }
@@ -229,11 +240,11 @@ const DAMAGE: [fn(&mut Case, &mut Numbers); 17] = [
     |case, numbers| case.state.control[6] = numbers.next() & 0x0FFF_0FFF,
     |case, numbers| case.state.control[7] = numbers.next() & 0x07FF_07FF,
     |case, numbers| case.y = around(numbers, case.state.control[7] >> 16 & 0x7FF),
-    |case, numbers| case.store.resize(numbers.pick(&[0, 1, 4962, 4964]), 0),
-    |case, _| case.table.resize(65_537, 0),
-    |case, numbers| off_by_a_few(&mut case.normal, numbers),
-    |case, numbers| off_by_a_few(&mut case.overlay, numbers),
-    |case, numbers| case.output.truncate(case.output.len() - (1 + numbers.below(3) as usize).min(case.output.len())),
+    |case, numbers| another_length(&mut case.store, numbers, 5200),
+    |case, numbers| case.table.resize(65_537 + numbers.below(2) as usize * numbers.below(9000) as usize, 0),
+    |case, numbers| another_length(&mut case.normal, numbers, 8300),
+    |case, numbers| another_length(&mut case.overlay, numbers, 2100),
+    |case, numbers| another_length(&mut case.output, numbers, 2100),
     |case, numbers| case.table.truncate(numbers.below(case.table.len() as u32 + 1) as usize),
     |case, numbers| {
         if let Some(word) = case.store.get_mut(numbers.below(32) as usize) {
@@ -248,7 +259,9 @@ fn around(numbers: &mut Numbers, bound: u32) -> u32 {
     numbers.pick(&[bound.saturating_sub(1), bound, bound + 1, u32::MAX, any])
 }
 
-fn off_by_a_few(row: &mut Vec<u8>, numbers: &mut Numbers) {
-    let length = row.len() + 2;
-    row.resize(length.saturating_sub(numbers.below(5) as usize), 0);
+/// Nothing, a few more or less, or any length up to a bound.
+fn another_length<T: Clone + Default>(part: &mut Vec<T>, numbers: &mut Numbers, bound: u32) {
+    let near = (part.len() + 3).saturating_sub(numbers.below(6) as usize);
+    let any = numbers.below(bound) as usize;
+    part.resize(numbers.pick(&[0, near, near, near, any]), T::default());
 }

@@ -45,8 +45,16 @@ impl Timings {
         Signals {
             hsync: self.hsync.holds(at.x),
             vsync: self.vsync.holds(at.y),
-            blank: self.hblank.holds(at.x) || self.vblank.holds(at.y),
+            blank: self.column_blanked(at.x) || self.line_blanked(at.y),
         }
+    }
+
+    pub fn column_blanked(&self, x: u32) -> bool {
+        self.hblank.holds(x)
+    }
+
+    pub fn line_blanked(&self, y: u32) -> bool {
+        self.vblank.holds(y)
     }
 
     /// The position one dot on.

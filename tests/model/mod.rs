@@ -17,6 +17,7 @@ pub mod records;
 pub mod registers;
 pub mod screen;
 pub mod session;
+pub mod step;
 pub mod store;
 pub mod timing;
 pub mod windows;

@@ -74,7 +74,12 @@ pub struct Records<R> {
 
 impl<R: Read> Records<R> {
     pub fn new(file: R) -> Self {
-        Self { file, number: 0, table_bytes: 0, body: Vec::new() }
+        Self::from(file, 0, 0)
+    }
+
+    /// The records from one of this number on, after so many bytes of the ID table.
+    pub fn from(file: R, number: u32, table_bytes: usize) -> Self {
+        Self { file, number, table_bytes, body: Vec::new() }
     }
 
     /// Reads a record, or refuses it by 12, 14 or 13; after a refusal and after the end nothing more is to be read.

@@ -10,7 +10,7 @@ use super::registers::STORE_WORDS;
 use super::screen::Screen;
 
 /// The words of the output: as many as the widest line has.
-const OUTPUT_WORDS: usize = 2048;
+pub const OUTPUT_WORDS: usize = 2048;
 
 /// Writes the listing of a file.
 pub fn list(file: impl Read, to: impl Write) -> io::Result<()> {

@@ -1,7 +1,7 @@
 //! Faults put into sessions.
 
+use super::recorded;
 use crate::numbers::Numbers;
-use crate::recorded;
 
 /// The bytes of a session with a fault or two, of which some don't count.
 pub fn damaged(numbers: &mut Numbers, mut records: Vec<Vec<u8>>) -> Vec<u8> {

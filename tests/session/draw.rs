@@ -1,11 +1,11 @@
 //! Random sessions, as their records.
 
+use super::recorded;
+use super::tables;
 use crate::model::colour::defined;
 use crate::model::records::MOST_DOTS;
 use crate::model::registers::CONTROL_KEPT;
 use crate::numbers::Numbers;
-use crate::recorded;
-use crate::tables;
 
 /// Bits of control word 0.
 const OVERLAY_ON: u32 = 1;

@@ -3,7 +3,7 @@
 use std::fmt::{self, Display, Formatter};
 use std::io;
 
-use crate::recorded;
+use super::recorded;
 
 /// How many bytes of a record, records of a file and lines of a listing are shown.
 const SHOWN: usize = 40;

@@ -1,17 +1,24 @@
 //! How a file that shows a difference is made small.
 
-use crate::recorded;
+use super::recorded;
 
-/// How many bytes of a body are tried one by one.
+/// How many bytes of a file are tried one by one.
 const BYTES: usize = 400;
 
-/// A file that still differs: without what can be dropped, with short bodies, and with zeros where they will do.
+/// A file that still differs: without what can be dropped, with narrow lines and short bodies, and with zeros where they
+/// will do.
 pub fn smallest(file: &[u8], differs: impl Fn(&[u8]) -> bool) -> Vec<u8> {
-    let records = dropped(recorded::split(file), |records| differs(&records.concat()));
-    let records = shortened(records, |records| differs(&records.concat()));
+    let differing = |records: &[Vec<u8>]| differs(&records.concat());
+    let mut records = dropped(recorded::split(file), differing);
+    for smaller in [narrowed, shortened, emptied] {
+        records = smaller(records, &differing);
+    }
+    let records = dropped(records, differing);
     let file = dropped(records.concat(), &differs);
     zeroed(file, differs)
 }
+
+type Differs<'a> = &'a dyn Fn(&[Vec<u8>]) -> bool;
 
 /// Drops runs of elements, long ones first, as long as the rest differs.
 fn dropped<T: Clone>(mut list: Vec<T>, differs: impl Fn(&[T]) -> bool) -> Vec<T> {
@@ -32,8 +39,47 @@ fn dropped<T: Clone>(mut list: Vec<T>, differs: impl Fn(&[T]) -> bool) -> Vec<T>
     list
 }
 
+/// Makes all lines narrower, with their rows, as long as that will do.
+fn narrowed(mut records: Vec<Vec<u8>>, differs: Differs) -> Vec<Vec<u8>> {
+    let mut width = records.iter().filter_map(|record| width_written(record)).max().unwrap_or(1);
+    let mut less = width / 2;
+    while less > 0 {
+        let narrower = width - less;
+        let candidate: Vec<_> = records.iter().map(|record| narrowed_to(record, narrower, width)).collect();
+        if differs(&candidate) {
+            (records, width) = (candidate, narrower);
+            less = less.min(width / 2);
+        } else {
+            less /= 2;
+        }
+    }
+    records
+}
+
+/// The active width that a record writes.
+fn width_written(record: &[u8]) -> Option<usize> {
+    match record {
+        [1, 0, 8, _, 0, 0, 0x1C, _, _, high, low] => Some(1 + usize::from(u16::from_be_bytes([*high, *low]))),
+        _ => None,
+    }
+}
+
+/// A record of lines that are narrower: their size, or a row of theirs cut in proportion.
+fn narrowed_to(record: &[u8], narrower: usize, width: usize) -> Vec<u8> {
+    match record {
+        [4 | 5, _, _, row @ ..] => recorded::record(record[0], &row[..row.len() * narrower / width]),
+        _ => match width_written(record) {
+            Some(written) => {
+                let field = (written.min(narrower) - 1) as u16;
+                [&record[..9], &field.to_be_bytes()].concat()
+            }
+            None => record.to_vec(),
+        },
+    }
+}
+
 /// Halves the bodies of rows and tables, with their lengths.
-fn shortened(mut records: Vec<Vec<u8>>, differs: impl Fn(&[Vec<u8>]) -> bool) -> Vec<Vec<u8>> {
+fn shortened(mut records: Vec<Vec<u8>>, differs: Differs) -> Vec<Vec<u8>> {
     for number in 0..records.len() {
         while let [tag @ 3..=5, _, _, body @ ..] = &records[number][..] {
             let mut candidate = records.clone();
@@ -42,6 +88,23 @@ fn shortened(mut records: Vec<Vec<u8>>, differs: impl Fn(&[Vec<u8>]) -> bool) ->
                 break;
             }
             records = candidate;
+        }
+    }
+    records
+}
+
+/// Puts zeros for whole rows and tables, or for one half of them.
+fn emptied(mut records: Vec<Vec<u8>>, differs: Differs) -> Vec<Vec<u8>> {
+    for number in 0..records.len() {
+        if let [3..=5, _, _, body @ ..] = &records[number][..] {
+            let length = body.len();
+            for zeros in [0..length, 0..length / 2, length / 2..length] {
+                let mut candidate = records.clone();
+                candidate[number][3..][zeros].fill(0);
+                if differs(&candidate) {
+                    records = candidate;
+                }
+            }
         }
     }
     records
