@@ -47,7 +47,7 @@ pub struct Drawn {
     pub place: u32,
 }
 
-#[link(name = "emulator", kind = "static")]
+#[link(name = "bulitampaw", kind = "static")]
 extern "C" {
     fn bulitampaw_fresh() -> State;
     fn bulitampaw_write(state: State, store: *mut u32, length: usize, address: u32, value: u32) -> Written;
