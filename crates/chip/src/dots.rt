@@ -5,7 +5,7 @@ ghost use lib.ListN.{length};
 ghost use Rattle.registers.specs.Store.{storeLength};
 ghost use Rattle.chip.specs.State.{goodState, withPosition};
 ghost use Rattle.chip.specs.Dots.{told, afterDots, ran};
-ghost use Rattle.chip.specs.Inner.{walk};
+ghost use Rattle.chip.specs.Inner.{walk, lastDot};
 use crate::state::Fit;
 use crate::state::State;
 use refusals::Refusal;
@@ -68,10 +68,22 @@ impl State {
             if walk.left == 0 {
                 return there;
             }
-            state = there.step(store);
+            state = there.step(store, true);
             left = walk.left - 1;
         }
         state
+    }
+
+    // The last dot of a run.
+    fn last(self, store: &mut [u32]) -> Ran
+        requires { ⌜ (goodState self ≡ true) × (length (now store) ≡ storeLength) ⌝ }
+        ensures { λ r. ⌜ ((r .state, now (store .exit)), told (r .answer)) ≡ lastDot (self, now (store .entry)) ⌝ }
+    {
+        let signals = self.signals();
+        Ran {
+            state: self.step(store, signals.blank),
+            answer: Answer::Reported(Report::Last(signals)),
+        }
     }
 
     // So many dots.
@@ -91,12 +103,6 @@ impl State {
                 answer: Answer::Reported(Report::Nothing),
             };
         }
-        let before = self.steps(store, count - 1);
-        let signals = before.signals();
-        let state = before.step(store);
-        Ran {
-            state,
-            answer: Answer::Reported(Report::Last(signals)),
-        }
+        self.steps(store, count - 1).last(store)
     }
 }
