@@ -4,8 +4,6 @@ use mathlib.Core.Bool.{Bool, _&&_, not, cond}
 use mathlib.Core.List.{List}
 use lib.Dec.{eqb}
 use lib.ListN.{getD, set}
-use Rattle.rules.specs.Rule.{Outcome, ok}
-use Rattle.rules.specs.Faults.{Numbered}
 use Rattle.refusals.specs.declared.Refusal.the-variants.{NoRegister, ReadOnly, StrayBits, QueueFull, StoreLength, BadState}
 use Rattle.timing.specs.Move.{positionAfter}
 use Rattle.timing.specs.Walk.{walked}
@@ -20,12 +18,10 @@ use Rattle.queue.specs.Queue.{oldest, popped}
 use Rattle.chip.specs.State.{controlWord, windowsOf, withQueue, goodState}
 use Rattle.chip.specs.Call.{Chip}
 use Rattle.chip.specs.Write.{readOnly, waits}
-use Rattle.chip.specs.Dot.{signalsOf, target, afterDot}
+use Rattle.chip.specs.Dot.{target}
 use Rattle.chip.specs.declared.state.State.{State}
 use Rattle.chip.specs.declared.state.Fit.{Fit}
 use Rattle.chip.specs.declared.state.Fit.the-variants.{Yes, Refused as Unfit}
-use Rattle.chip.specs.declared.dots.Report.{Report}
-use Rattle.chip.specs.declared.dots.Report.the-variants.{Last}
 use Rattle.chip.specs.declared.write.Verdict.{Verdict}
 use Rattle.chip.specs.declared.write.Verdict.the-variants.{To, Refused}
 
@@ -59,7 +55,3 @@ unfoldable pub walk : State → ℕ → Walk
 walk state count =
     cond (eqb (state .queue .waiting) 0) (record { at = positionAfter (state .at) count (controlWord state 1); left = 0 })
     (walked (windowsOf state) (state .at) (controlWord state 1) count)
-
--- what the last dot of a run leaves and reports
-abbrev pub lastDot : Chip → Chip × Outcome Numbered Report
-lastDot chip = (afterDot chip, ok (Last (signalsOf (chip .0))))

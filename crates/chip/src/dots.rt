@@ -5,7 +5,7 @@ ghost use lib.ListN.{length};
 ghost use Rattle.registers.specs.Store.{storeLength};
 ghost use Rattle.chip.specs.State.{goodState, withPosition};
 ghost use Rattle.chip.specs.Dots.{told, afterDots, ran};
-ghost use Rattle.chip.specs.Inner.{walk, lastDot};
+ghost use Rattle.chip.specs.Inner.{walk};
 use crate::state::Fit;
 use crate::state::State;
 use refusals::Refusal;
@@ -74,18 +74,6 @@ impl State {
         state
     }
 
-    // The last dot of a run.
-    fn last(self, store: &mut [u32]) -> Ran
-        requires { ⌜ (goodState self ≡ true) × (length (now store) ≡ storeLength) ⌝ }
-        ensures { λ r. ⌜ ((r .state, now (store .exit)), told (r .answer)) ≡ lastDot (self, now (store .entry)) ⌝ }
-    {
-        let signals = self.signals();
-        Ran {
-            state: self.step(store, signals.blank),
-            answer: Answer::Reported(Report::Last(signals)),
-        }
-    }
-
     // So many dots.
     pub fn dots(self, store: &mut [u32], count: u32) -> Ran
         ensures { λ r. ⌜ ((r .state, now (store .exit)), told (r .answer)) ≡ ran (self, now (store .entry)) count ⌝ }
@@ -103,6 +91,11 @@ impl State {
                 answer: Answer::Reported(Report::Nothing),
             };
         }
-        self.steps(store, count - 1).last(store)
+        let before = self.steps(store, count - 1);
+        let signals = before.signals();
+        Ran {
+            state: before.step(store, signals.blank),
+            answer: Answer::Reported(Report::Last(signals)),
+        }
     }
 }

@@ -2,7 +2,7 @@
 ghost use Prim.Native.Nat.{_<_};
 ghost use mathlib.Core.Path.{_≡_};
 ghost use mathlib.Core.Bool.{false};
-ghost use lib.ListN.{length, set};
+ghost use lib.ListN.{length};
 ghost use Rattle.registers.specs.Blocks.{count};
 ghost use Rattle.registers.specs.Store.{storeLength};
 ghost use Rattle.queue.specs.Queue.{pushed};
@@ -83,24 +83,15 @@ fn judged(fit: Fit, address: u32, value: u32, full: bool) -> Verdict
     Verdict::To(register)
 }
 
-// A value goes into one of the control words.
-fn with_value(mut control: [u32; 9], word: usize, value: u32) -> [u32; 9]
-    requires { ⌜ word < 9 ⌝ }
-    ensures { λ r. ⌜ r ≡ set control word value ⌝ }
-{
-    control[word] = value;
-    control
-}
-
 impl State {
     // A value goes into a control word.
     fn with_word(mut self, word: usize, value: u32) -> Self
         requires { ⌜ word < 9 ⌝ }
         ensures { λ r. ⌜ r ≡ withWord self word value ⌝ }
     {
-        let control = self.control;
-        let changed = with_value(control, word, value);
-        self.control = changed;
+        let mut control = self.control;
+        control[word] = value;
+        self.control = control;
         self
     }
 

@@ -1,7 +1,11 @@
 -- `chip::state::State::dots` meets its contract: 11, then 5, else all dots but the last, and then the last. Assumes nothing.
 use mathlib.Core.Path.{ap, sym, _∙_}
 use borrow.Author.Needs.{needs}
-use Rattle.chip.specs.Inner.{lastDot}
+use Rattle.rules.specs.Rule.{ok}
+use Rattle.timing.specs.declared.Signals.{Signals}
+use Rattle.chip.specs.Call.{Chip}
+use Rattle.chip.specs.Dot.{signalsOf, afterDot}
+use Rattle.chip.specs.declared.dots.Report.the-variants.{Last}
 use Rattle.chip.proofs.Fit.{fit-says}
 use Rattle.chip.proofs.Runs.{dots-unfit, dots-none, dots-some}
 use Rattle.chip.proofs.state.State.dots.Statement.{statement}
@@ -36,8 +40,14 @@ steps-requires c κs =
     let e = c .before .before in
     fit-says _ _ (sym (e .before .before .fit .ensures) ∙ e .enum-told .given .1)
 
-last-requires : tie.Need-last-requires
-last-requires c κs = search needs
+signals-requires : tie.Need-signals-requires
+signals-requires c κs = search needs
+
+step-requires : tie.Need-step-requires
+step-requires c κs =
+    let g = c .before in
+    let p = g .before .before .before in
+    (p .steps .ensures .1, p .steps .ensures .2, sym (ap (λ (signals : Signals). signals .blank) (g .signals .ensures)))
 
 same-length : tie.Need-same-length
 same-length c = search needs
@@ -45,13 +55,17 @@ same-length c = search needs
 returns-3 : tie.Need-returns-3
 returns-3 c =
     let t = c .before .before in
-    let p = t .before .before .before .before in
+    let g = t .before .before in
+    let p = g .before .before .before in
     let e = p .before .before .before in
     let f = e .before .before in
     let s = f .before .before .args in
-    t .last .ensures
-    ∙ ap lastDot (p .steps .ensures .0)
-    ∙ sym (dots-some (s .self, s .store .now) (s .count) (sym (f .fit .ensures) ∙ e .enum-told .given .1) (p .before .before .if1 .left))
+    let chip : Chip = (s .self, s .store .now) in
+    let before : Chip = (p .steps .result, p .steps .last .1 .0) in
+    ap (λ (after : Chip). (after, ok (Last (g .signals .result)))) (t .step .ensures)
+    ∙ ap (λ (signals : Signals). (afterDot before, ok (Last signals))) (g .signals .ensures)
+    ∙ ap (λ (before : Chip). (afterDot before, ok (Last (signalsOf (before .0))))) (p .steps .ensures .0)
+    ∙ sym (dots-some chip (s .count) (sym (f .fit .ensures) ∙ e .enum-told .given .1) (p .before .before .if1 .left))
 
 pub dots-spec : {M : Type 1} → statement M
 dots-spec =
@@ -64,6 +78,7 @@ dots-spec =
     returns-2
     sub-steps
     steps-requires
-    last-requires
+    signals-requires
+    step-requires
     same-length
     returns-3)
