@@ -6,23 +6,23 @@ use mathlib.Core.List.{List, []}
 use native.Mathlib.Omega.{arith}
 use borrow.Author.Tests.{ltb-true, le-ltb, eqb-true}
 use lib.Dec.{ltb, eqb}
-use lib.ListN.{length, set}
+use lib.ListN.{length}
 use Rattle.rules.specs.Rule.{ok, refused}
 use Rattle.refusals.specs.Refusal.{numbered}
 use Rattle.refusals.specs.declared.Refusal.{Refusal}
+use Rattle.timing.specs.Signals.{signalsAt}
 use Rattle.timing.specs.Move.{positionAfter}
 use Rattle.timing.specs.Walk.{walked}
 use Rattle.timing.specs.declared.Position.{Position}
 use Rattle.timing.specs.declared.Walk.{Walk}
-use Rattle.timing.proofs.Walked.{walk-runs, walk-left-le, walk-at}
+use Rattle.timing.proofs.Walked.{walk-stops, walk-runs, walk-left-le, walk-at}
 use Rattle.registers.specs.Store.{storeLength}
-use Rattle.queue.specs.Queue.{oldest, popped}
 use Rattle.queue.proofs.Rule.{both}
-use Rattle.chip.specs.State.{controlWord, windowsOf, withPosition, withQueue, goodState, Whole}
+use Rattle.chip.specs.State.{controlWord, windowsOf, withPosition, goodState, Whole}
 use Rattle.chip.specs.Call.{Chip}
-use Rattle.chip.specs.Dot.{signalsOf, drains, target, moved, afterDot, dotted}
+use Rattle.chip.specs.Dot.{signalsOf, drains, moved, afterDot, dotted}
 use Rattle.chip.specs.Dots.{afterDots, lastReport, ran}
-use Rattle.chip.specs.Inner.{fit, walk}
+use Rattle.chip.specs.Inner.{fit, applied, walk}
 use Rattle.chip.specs.declared.state.State.{State}
 use Rattle.chip.specs.declared.dots.Report.the-variants.{Nothing, Last}
 use Rattle.chip.specs.declared.state.Fit.the-variants.{Yes, Refused}
@@ -32,7 +32,7 @@ use Rattle.chip.proofs.Fit.{fit-on, fit-off}
 module _ (state : State) (store : List ℕ) where
   -- a dot that drains the queue applies its oldest write and moves
   pub draining-dot : drains state ≡ true
-      → afterDot (state, store) ≡ (moved (withQueue state (popped (state .queue))), set store (target (oldest (state .queue))) (oldest (state .queue) .colour))
+      → afterDot (state, store) ≡ (moved (applied (state, store) .0), applied (state, store) .1)
   unfolding afterDot
   draining-dot draining = simp draining refl
 
@@ -54,6 +54,11 @@ module _ (state : State) (store : List ℕ) where
   not-blanked : signalsOf state .blank ≡ false → drains state ≡ false
   unfolding drains
   not-blanked clear = ap (λ (test : Bool). test && ltb 0 (state .queue .waiting)) clear
+
+-- whether a dot drains the queue, by its signals
+pub drains-by : (state : State) (blank test : Bool) → signalsOf state .blank ≡ blank → (blank && ltb 0 (state .queue .waiting)) ≡ test → drains state ≡ test
+unfolding drains
+drains-by state blank test e h = ap (λ (blank : Bool). blank && ltb 0 (state .queue .waiting)) e ∙ h
 
 -- where a dot drains the queue, something waits
 pub drains-some : (state : State) → drains state ≡ true → 0 < state .queue .waiting
@@ -105,6 +110,17 @@ onward state count good = by (eqb (state .queue .waiting) 0) refl
       walk-left-le (windowsOf state) (state .at) (controlWord state 1) count,
       λ (store : List ℕ). dots-walk count state store,
     )
+
+-- a walk that leaves dots ends at a blanked position
+pub walk-blanked : (state : State) (count : ℕ) → 0 < walk state count .left → signalsOf (withPosition state (walk state count .at)) .blank ≡ true
+unfolding walk
+walk-blanked state count = by (eqb (state .queue .waiting) 0)
+  where
+    by : (none : Bool)
+        → let there = cond none (record { at = positionAfter (state .at) count (controlWord state 1); left = 0 }) (to-blank state count) in
+        0 < there .left → signalsAt (windowsOf state) (there .at) .blank ≡ true
+    by true more = absurd (omega arith)
+    by false more = walk-stops (windowsOf state) (state .at) (controlWord state 1) count more
 
 -- what stays true while dots are left: the sizes, the rule, and where those dots lead
 abbrev pub Underway : Chip → ℕ → Chip → ℕ → Type 0

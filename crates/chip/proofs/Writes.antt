@@ -17,6 +17,7 @@ use Rattle.queue.specs.Queue.{full}
 use Rattle.chip.specs.Call.{Chip}
 use Rattle.chip.specs.Write.{readOnly, waits, registerFaults, put, putNamed, written}
 use Rattle.chip.specs.Inner.{fit, judgedOn, judged}
+use Rattle.chip.specs.declared.state.Fit.{Fit}
 use Rattle.chip.specs.declared.state.Fit.the-variants.{Yes, Refused as Unfit}
 use Rattle.chip.specs.declared.write.Verdict.{Verdict}
 use Rattle.chip.specs.declared.write.Verdict.the-variants.{To, Refused}
@@ -24,41 +25,49 @@ use Rattle.chip.proofs.Fit.{fit-on, fit-off}
 
 -- ---- the verdict, test by test
 
-module _ (address value : ℕ) (full : Bool) (place : ℕ) (placed : place ≡ placeOf address) where
-  -- it goes by what the address names
-  judged-by : (what : Named) → named address ≡ what → judgedOn what place value full ≡ judged address value full
+module _ (fit : Fit) (address value : ℕ) (full : Bool) where
+  -- 11 and 5
+  pub judged-unfit : (refusal : Refusal) → fit ≡ Unfit refusal → Refused refusal ≡ judged fit address value full
   unfolding judged
-  judged-by what e =
-      ap (λ (place : ℕ). judgedOn what place value full) placed ∙ ap (λ (what : Named). judgedOn what (placeOf address) value full) (sym e)
+  judged-unfit refusal e = ap (λ (fit : Fit). judged fit address value full) (sym e)
 
-  -- 1
-  pub judged-nowhere : named address ≡ Nothing → Refused (NoRegister place) ≡ judged address value full
-  judged-nowhere e = judged-by Nothing e
+  module _ (fine : fit ≡ Yes) (place : ℕ) (placed : place ≡ placeOf address) where
+    -- a call that may go on goes by what the address names
+    judged-by : (what : Named) → named address ≡ what → judgedOn what place value full ≡ judged fit address value full
+    unfolding judged
+    judged-by what e =
+        ap (λ (place : ℕ). judgedOn what place value full) placed
+        ∙ ap (λ (what : Named). judgedOn what (placeOf address) value full) (sym e)
+        ∙ ap (λ (fit : Fit). judged fit address value full) (sym fine)
 
-  module _ (register : Register) (there : named address ≡ Is register) where
-    -- the tests of a register decide
-    judged-at : (only fine none : Bool) → readOnly register ≡ only → fits register value ≡ fine → (full && waits register) ≡ none
-        → cond only (Refused (ReadOnly place)) (cond (not fine) (Refused (StrayBits place)) (cond none (Refused (QueueFull place)) (To register)))
-        ≡ judged address value full
-    judged-at only fine none e f g = rw (sym e, sym f, sym g) (judged-by (Is register) there)
+    -- 1
+    pub judged-nowhere : named address ≡ Nothing → Refused (NoRegister place) ≡ judged fit address value full
+    judged-nowhere e = judged-by Nothing e
 
-    -- 2
-    pub judged-read-only : readOnly register ≡ true → Refused (ReadOnly place) ≡ judged address value full
-    judged-read-only only = judged-at true _ _ only refl refl
+    module _ (register : Register) (there : named address ≡ Is register) where
+      -- the tests of a register decide
+      judged-at : (only fine none : Bool) → readOnly register ≡ only → fits register value ≡ fine → (full && waits register) ≡ none
+          → cond only (Refused (ReadOnly place)) (cond (not fine) (Refused (StrayBits place)) (cond none (Refused (QueueFull place)) (To register)))
+          ≡ judged fit address value full
+      judged-at only fine none e f g = rw (sym e, sym f, sym g) (judged-by (Is register) there)
 
-    module _ (writable : readOnly register ≡ false) where
-      -- 3
-      pub judged-stray : fits register value ≡ false → Refused (StrayBits place) ≡ judged address value full
-      judged-stray stray = judged-at false false _ writable stray refl
+      -- 2
+      pub judged-read-only : readOnly register ≡ true → Refused (ReadOnly place) ≡ judged fit address value full
+      judged-read-only only = judged-at true _ _ only refl refl
 
-      module _ (clean : fits register value ≡ true) where
-        -- 4
-        pub judged-full : (full && waits register) ≡ true → Refused (QueueFull place) ≡ judged address value full
-        judged-full none = judged-at false true true writable clean none
+      module _ (writable : readOnly register ≡ false) where
+        -- 3
+        pub judged-stray : fits register value ≡ false → Refused (StrayBits place) ≡ judged fit address value full
+        judged-stray stray = judged-at false false _ writable stray refl
 
-        -- none of them
-        pub judged-to : (full && waits register) ≡ false → To register ≡ judged address value full
-        judged-to room = judged-at false true false writable clean room
+        module _ (clean : fits register value ≡ true) where
+          -- 4
+          pub judged-full : (full && waits register) ≡ true → Refused (QueueFull place) ≡ judged fit address value full
+          judged-full none = judged-at false true true writable clean none
+
+          -- none of them
+          pub judged-to : (full && waits register) ≡ false → To register ≡ judged fit address value full
+          judged-to room = judged-at false true false writable clean room
 
 -- ---- what it says
 
@@ -72,35 +81,34 @@ abbrev goes : Verdict → Bool
 goes (To register) = true
 goes (Refused refusal) = false
 
--- a write that goes to a register goes to the one that its address names, and that can be written
-pub goes-says : (address value : ℕ) (full : Bool) (register : Register) → judged address value full ≡ To register
-    → (named address ≡ Is register) × (readOnly register ≡ false)
+-- a write that goes to a register may go on, and goes to the one that its address names, and that can be written
+pub goes-says : (fit : Fit) (address value : ℕ) (full : Bool) (register : Register) → judged fit address value full ≡ To register
+    → (fit ≡ Yes) × (named address ≡ Is register) × (readOnly register ≡ false)
 unfolding judged
-goes-says address value full register e = by-name (named address) e
+goes-says (Unfit refusal) address value full register e = absurd (false≢true (ap goes e))
+goes-says Yes address value full register e = by-name (named address) e
   where
     by-tests : (other : Register) (only fine none : Bool) → readOnly other ≡ only
         → cond only (Refused (ReadOnly (placeOf address))) (cond (not fine) (Refused (StrayBits (placeOf address))) (cond none (Refused (QueueFull (placeOf address))) (To other)))
         ≡ To register
-        → (Is other ≡ Is register) × (readOnly register ≡ false)
+        → (Yes ≡ Yes) × (Is other ≡ Is register) × (readOnly register ≡ false)
     by-tests other true fine none h e = absurd (false≢true (ap goes e))
     by-tests other false false none h e = absurd (false≢true (ap goes e))
     by-tests other false true true h e = absurd (false≢true (ap goes e))
     by-tests other false true false h e =
         let same : other ≡ register = ap (register-of other) e in
-        (ap Is same, subst (λ (register : Register). readOnly register ≡ false) same h)
+        (refl, ap Is same, subst (λ (register : Register). readOnly register ≡ false) same h)
 
-    by-name : (what : Named) → judgedOn what (placeOf address) value full ≡ To register → (what ≡ Is register) × (readOnly register ≡ false)
+    by-name : (what : Named) → judgedOn what (placeOf address) value full ≡ To register → (Yes ≡ Yes) × (what ≡ Is register) × (readOnly register ≡ false)
     by-name Nothing e = absurd (false≢true (ap goes e))
     by-name (Is other) e = by-tests other (readOnly other) (fits other value) (full && waits other) refl e
 
 -- ---- what a write comes to
 
 module _ (chip : Chip) (address value : ℕ) where
-  -- 11 and 5
-  pub write-unfit : (refusal : Refusal) → fit (chip .0) (length (chip .1)) ≡ Unfit refusal → written chip address value ≡ (chip, refused (numbered refusal))
-  unfolding written
-  write-unfit refusal e =
-      fit-off (chip .0) (length (chip .1)) (registerFaults chip (named address) (placeOf address) value) chip (putNamed chip (named address) value, tt) refusal e
+  -- the verdict on a write to this chip
+  abbrev pub verdictOn : Verdict
+  verdictOn = judged (fit (chip .0) (length (chip .1))) address value (full (chip .0 .queue))
 
   -- what the verdict brings
   by-verdict : Verdict → Chip × Outcome Numbered (Unit {0})
@@ -127,20 +135,24 @@ module _ (chip : Chip) (address value : ℕ) where
       by false true false true = refl
       by false true false false = refl
 
-  module _ (fine : fit (chip .0) (length (chip .1)) ≡ Yes) where
-    -- a write that may go on comes to what its verdict brings
-    write-judged : written chip address value ≡ by-verdict (judged address value (full (chip .0 .queue)))
-    unfolding written judged
-    write-judged =
-        fit-on (chip .0) (length (chip .1)) (registerFaults chip (named address) (placeOf address) value) chip (putNamed chip (named address) value, tt) fine
-        ∙ faults-judged (named address) (placeOf address)
+  -- a write comes to what its verdict brings
+  write-judged : written chip address value ≡ by-verdict verdictOn
+  unfolding written judged by-verdict
+  write-judged = by (fit (chip .0) (length (chip .1))) refl
+    where
+      by : (test : Fit) → fit (chip .0) (length (chip .1)) ≡ test → written chip address value ≡ by-verdict (judged test address value (full (chip .0 .queue)))
+      by Yes fine =
+          fit-on (chip .0) (length (chip .1)) (registerFaults chip (named address) (placeOf address) value) chip (putNamed chip (named address) value, tt) fine
+          ∙ faults-judged (named address) (placeOf address)
+      by (Unfit refusal) e =
+          fit-off (chip .0) (length (chip .1)) (registerFaults chip (named address) (placeOf address) value) chip (putNamed chip (named address) value, tt) refusal e
 
-    -- refused by 1, 2, 3 or 4
-    pub write-refused : (refusal : Refusal) → judged address value (full (chip .0 .queue)) ≡ Refused refusal → written chip address value ≡ (chip, refused (numbered refusal))
-    unfolding by-verdict
-    write-refused refusal e = write-judged ∙ ap by-verdict e
+  -- refused by 11, 5, 1, 2, 3 or 4
+  pub write-refused : (refusal : Refusal) → verdictOn ≡ Refused refusal → written chip address value ≡ (chip, refused (numbered refusal))
+  unfolding by-verdict
+  write-refused refusal e = write-judged ∙ ap by-verdict e
 
-    -- refused by none of them
-    pub write-goes : (register : Register) → judged address value (full (chip .0 .queue)) ≡ To register → written chip address value ≡ (put chip register value, ok tt)
-    unfolding by-verdict
-    write-goes register e = write-judged ∙ ap by-verdict e
+  -- refused by none of them
+  pub write-goes : (register : Register) → verdictOn ≡ To register → written chip address value ≡ (put chip register value, ok tt)
+  unfolding by-verdict
+  write-goes register e = write-judged ∙ ap by-verdict e

@@ -1,11 +1,13 @@
 // One dot.
+ghost use Prim.Native.Nat.{_<_};
 ghost use mathlib.Core.Path.{_≡_};
-ghost use mathlib.Core.Bool.{true};
+ghost use mathlib.Core.Bool.{true, _&&_};
+ghost use lib.Dec.{ltb};
 ghost use lib.ListN.{length};
 ghost use Rattle.registers.specs.Store.{storeLength};
-ghost use Rattle.queue.specs.Queue.{popped};
-ghost use Rattle.chip.specs.State.{goodState, withQueue};
-ghost use Rattle.chip.specs.Dot.{told, signalsOf, drains, target, moved, afterDot, dotted};
+ghost use Rattle.chip.specs.State.{goodState};
+ghost use Rattle.chip.specs.Dot.{told, signalsOf, target, moved, afterDot, dotted};
+ghost use Rattle.chip.specs.Inner.{applied};
 use crate::state::Fit;
 use crate::state::State;
 use queue::Waiting;
@@ -37,6 +39,13 @@ fn target(write: Waiting) -> usize
     register.store_index()
 }
 
+// Whether a dot applies a write: it is blanked and something waits.
+fn drains(blank: bool, waiting: u32) -> bool
+    ensures { λ r. ⌜ r ≡ (blank && ltb 0 waiting) ⌝ }
+{
+    if blank { 0 < waiting } else { false }
+}
+
 impl State {
     // The signals at the position.
     pub(crate) fn signals(self) -> Signals
@@ -44,18 +53,6 @@ impl State {
     {
         let windows = self.windows();
         windows.signals(self.at)
-    }
-
-    // Whether the dot is blanked and something waits.
-    fn drains(self) -> bool
-        ensures { λ r. ⌜ r ≡ drains self ⌝ }
-    {
-        let signals = self.signals();
-        if signals.blank {
-            0 < self.queue.waiting
-        } else {
-            false
-        }
     }
 
     // The position moves on.
@@ -67,26 +64,26 @@ impl State {
         self
     }
 
-    // The oldest write leaves the queue.
-    fn without_oldest(mut self) -> Self
-        ensures { λ r. ⌜ r ≡ withQueue self (popped (self .queue)) ⌝ }
+    // The oldest write goes from the queue into its place in the store.
+    fn applied(mut self, store: &mut [u32]) -> Self
+        requires { ⌜ (goodState self ≡ true) × (0 < self .queue .waiting) × (length (now store) ≡ storeLength) ⌝ }
+        ensures { λ r. ⌜ (r, now (store .exit)) ≡ applied (self, now (store .entry)) ⌝ }
     {
         let queue = self.queue;
+        let oldest = queue.oldest();
+        let index = target(oldest);
+        store[index] = oldest.colour;
         self.queue = queue.popped();
         self
     }
 
     // What a dot does: the oldest write is applied, if it is blanked and something waits; then it moves.
-    pub(crate) fn step(self, store: &mut [u32]) -> Self
-        requires { ⌜ (goodState self ≡ true) × (length (now store) ≡ storeLength) ⌝ }
+    pub(crate) fn step(self, store: &mut [u32], blank: bool) -> Self
+        requires { ⌜ (goodState self ≡ true) × (length (now store) ≡ storeLength) × (signalsOf self .blank ≡ blank) ⌝ }
         ensures { λ r. ⌜ (r, now (store .exit)) ≡ afterDot (self, now (store .entry)) ⌝ }
     {
-        if self.drains() {
-            let queue = self.queue;
-            let oldest = queue.oldest();
-            let index = target(oldest);
-            store[index] = oldest.colour;
-            return self.without_oldest().moved();
+        if drains(blank, self.queue.waiting) {
+            return self.applied(store).moved();
         }
         self.moved()
     }
@@ -103,9 +100,8 @@ impl State {
             };
         }
         let signals = self.signals();
-        let state = self.step(store);
         Dotted {
-            state,
+            state: self.step(store, signals.blank),
             answer: Answer::Reported(signals),
         }
     }

@@ -68,7 +68,7 @@ impl State {
             if walk.left == 0 {
                 return there;
             }
-            state = there.step(store);
+            state = there.step(store, true);
             left = walk.left - 1;
         }
         state
@@ -93,9 +93,8 @@ impl State {
         }
         let before = self.steps(store, count - 1);
         let signals = before.signals();
-        let state = before.step(store);
         Ran {
-            state,
+            state: before.step(store, signals.blank),
             answer: Answer::Reported(Report::Last(signals)),
         }
     }

@@ -1,5 +1,5 @@
 // Register reads.
-ghost use Prim.Native.Nat.{_<_};
+ghost use Prim.Native.Nat.{_≤_, _<_};
 ghost use mathlib.Core.Path.{_≡_};
 ghost use mathlib.Core.Bool.{true};
 ghost use lib.ListN.{length};
@@ -7,12 +7,14 @@ ghost use Rattle.registers.specs.Blocks.{count};
 ghost use Rattle.registers.specs.Store.{storeLength};
 ghost use Rattle.chip.specs.State.{goodState};
 ghost use Rattle.chip.specs.Read.{shownOfControl, shown, told, readBack};
+ghost use Rattle.chip.specs.Inner.{shownBy};
 use crate::state::Fit;
 use crate::state::State;
 use refusals::Refusal;
 use registers::Block;
 use registers::Named;
 use registers::Register;
+use timing::Position;
 
 // What a read answers.
 pub enum Answer {
@@ -26,21 +28,30 @@ pub struct ReadBack {
     pub answer: Answer,
 }
 
+// What a control word shows, by the words that are stored, the room in the queue and the position.
+fn shown_by(control: [u32; 9], room: u32, at: Position, word: u32) -> u32
+    requires { ⌜ (at .x ≤ 4095) × (at .y ≤ 4095) × (word < 11) ⌝ }
+    ensures { λ r. ⌜ r ≡ shownBy control room at word ⌝ }
+{
+    if word == 9 {
+        return room;
+    }
+    if word == 10 {
+        return at.y * 65536 + at.x;
+    }
+    let index = word as usize;
+    control[index]
+}
+
 impl State {
     // What a control word shows.
     fn shown_of_control(self, word: u32) -> u32
         requires { ⌜ (goodState self ≡ true) × (word < 11) ⌝ }
         ensures { λ r. ⌜ r ≡ shownOfControl self word ⌝ }
     {
-        if word == 9 {
-            let queue = self.queue;
-            return queue.room();
-        }
-        if word == 10 {
-            return self.at.y * 65536 + self.at.x;
-        }
-        let index = word as usize;
-        self.control[index]
+        let control = self.control;
+        let queue = self.queue;
+        shown_by(control, queue.room(), self.at, word)
     }
 
     // What a register shows.
@@ -58,27 +69,28 @@ impl State {
         }
     }
 
+    // What a read answers.
+    fn read_answer(self, store: &[u32], address: u32) -> Answer
+        ensures { λ r. ⌜ ((self, now (store .entry)), told r) ≡ readBack (self, now (store .entry)) address ⌝ }
+    {
+        let fit = self.fit(store.len());
+        if let Fit::Refused(refusal) = fit {
+            return Answer::Refused(refusal);
+        }
+        let named = Register::at(address);
+        let Named::Is(register) = named else {
+            return Answer::Refused(Refusal::NoRegister(registers::place(address)));
+        };
+        Answer::Word(self.shown(store, register))
+    }
+
     // One register read.
     pub fn read(self, store: &[u32], address: u32) -> ReadBack
         ensures { λ r. ⌜ ((r .state, now (store .entry)), told (r .answer)) ≡ readBack (self, now (store .entry)) address ⌝ }
     {
-        let fit = self.fit(store.len());
-        if let Fit::Refused(refusal) = fit {
-            return ReadBack {
-                state: self,
-                answer: Answer::Refused(refusal),
-            };
-        }
-        let named = Register::at(address);
-        let Named::Is(register) = named else {
-            return ReadBack {
-                state: self,
-                answer: Answer::Refused(Refusal::NoRegister(registers::place(address))),
-            };
-        };
         ReadBack {
             state: self,
-            answer: Answer::Word(self.shown(store, register)),
+            answer: self.read_answer(store, address),
         }
     }
 }

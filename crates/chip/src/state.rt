@@ -23,6 +23,26 @@ pub enum Fit {
     Refused(Refusal),
 }
 
+// Whether no control word has stray bits.
+fn good_words(control: [u32; 9]) -> bool
+    ensures { λ r. ⌜ r ≡ goodWords 0 control ⌝ }
+{
+    let mut word: usize = 0;
+    while word < 9 {
+        let value = control[word];
+        let register = Register {
+            block: Block::Control,
+            word: word as u32,
+        };
+        if register.fits(value) {
+            word += 1;
+        } else {
+            return false;
+        }
+    }
+    true
+}
+
 impl State {
     // A fresh state: all zero, its queue empty.
     pub fn new() -> Self
@@ -35,31 +55,12 @@ impl State {
         }
     }
 
-    // Whether no control word has stray bits.
-    fn good_words(self) -> bool
-        ensures { λ r. ⌜ r ≡ goodWords 0 (self .control) ⌝ }
-    {
-        let mut word: usize = 0;
-        while word < 9 {
-            let value = self.control[word];
-            let register = Register {
-                block: Block::Control,
-                word: word as u32,
-            };
-            if register.fits(value) {
-                word += 1;
-            } else {
-                return false;
-            }
-        }
-        true
-    }
-
     // Whether the state keeps its rule.
     pub fn good(self) -> bool
         ensures { λ r. ⌜ r ≡ goodState self ⌝ }
     {
-        if !self.good_words() {
+        let control = self.control;
+        if !good_words(control) {
             return false;
         }
         if 4095 < self.at.x {
@@ -67,6 +68,9 @@ impl State {
         }
         if 4095 < self.at.y {
             return false;
+        }
+        if self.queue.waiting == 0 {
+            return true;
         }
         let queue = self.queue;
         queue.good()

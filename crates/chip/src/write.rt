@@ -57,10 +57,13 @@ fn waits(register: Register) -> bool
     }
 }
 
-// What becomes of a write, by its address and value and by whether the queue is full.
-fn judged(address: u32, value: u32, full: bool) -> Verdict
-    ensures { λ r. ⌜ r ≡ judged address value full ⌝ }
+// What becomes of a write, by whether the call may go on, by its address and value and by whether the queue is full.
+fn judged(fit: Fit, address: u32, value: u32, full: bool) -> Verdict
+    ensures { λ r. ⌜ r ≡ judged fit address value full ⌝ }
 {
+    if let Fit::Refused(refusal) = fit {
+        return Verdict::Refused(refusal);
+    }
     let place = registers::place(address);
     let named = Register::at(address);
     let Named::Is(register) = named else {
@@ -86,7 +89,9 @@ impl State {
         requires { ⌜ word < 9 ⌝ }
         ensures { λ r. ⌜ r ≡ withWord self word value ⌝ }
     {
-        self.control[word] = value;
+        let mut control = self.control;
+        control[word] = value;
+        self.control = control;
         self
     }
 
@@ -123,15 +128,8 @@ impl State {
     pub fn write(self, store: &mut [u32], address: u32, value: u32) -> Written
         ensures { λ r. ⌜ ((r .state, now (store .exit)), told (r .answer)) ≡ written (self, now (store .entry)) address value ⌝ }
     {
-        let fit = self.fit(store.len());
-        if let Fit::Refused(refusal) = fit {
-            return Written {
-                state: self,
-                answer: Answer::Refused(refusal),
-            };
-        }
         let queue = self.queue;
-        let verdict = judged(address, value, queue.full());
+        let verdict = judged(self.fit(store.len()), address, value, queue.full());
         match verdict {
             Verdict::To(register) => Written {
                 state: self.put(store, register, value),

@@ -6,7 +6,7 @@ use mathlib.Core.List.{List, [], _∷_, _++_}
 use native.Mathlib.Numerals.{add-one}
 use native.Mathlib.Omega.{arith}
 use borrow.Author.Tests.{ltb-true, leb-true, lt-ltb, le-leb}
-use lib.ListN.{length, getD, drop, length-take, drop-of-length-le}
+use lib.ListN.{length, getD, take, drop, length-take, drop-of-length-le}
 use lib.Seq.{drop-cons, getD-take}
 use Rattle.registers.specs.Blocks.{count}
 use Rattle.registers.specs.Kept.{fits}
@@ -54,6 +54,10 @@ good-says queue good = let e = both _ _ good in (leb-true _ _ (e .0), e .1)
 pub says-good : (queue : Queue) → queue .waiting ≤ 64 → allGood (waitingIn queue) ≡ true → goodQueue queue ≡ true
 unfolding goodQueue
 says-good queue few good = rw (le-leb _ _ few) good
+
+-- where nothing waits, the rule is kept
+pub none-good : (queue : Queue) → queue .waiting ≡ 0 → goodQueue queue ≡ true
+none-good queue none = says-good queue (omega arith) (ap (λ (count : ℕ). allGood (take count (queue .slots))) none)
 
 -- a good write goes to a colour entry, with no bits but those that it keeps
 pub write-says : (write : Waiting) → goodWrite write ≡ true

@@ -82,12 +82,11 @@ impl Queue {
     pub fn pushed(mut self, write: Waiting) -> Self
         ensures { λ r. ⌜ r ≡ pushed self write ⌝ }
     {
-        if self.full() {
-            return self;
+        if !self.full() {
+            let end = self.waiting as usize;
+            self.slots[end] = write;
+            self.waiting += 1;
         }
-        let end = self.waiting as usize;
-        self.slots[end] = write;
-        self.waiting += 1;
         self
     }
 

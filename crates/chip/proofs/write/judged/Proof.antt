@@ -1,4 +1,4 @@
--- `chip::write::judged` meets its contract: each return is a case of the order 1, 2, 3, 4. Assumes nothing.
+-- `chip::write::judged` meets its contract: each return is a case of the order 11, 5, 1, 2, 3, 4. Assumes nothing.
 use mathlib.Core.Path.{_≡_, ap, sym, _∙_}
 use mathlib.Core.Bool.{Bool, true, false, _&&_}
 use borrow.Author.Needs.{needs}
@@ -7,21 +7,38 @@ use Rattle.registers.specs.Named.{named}
 use Rattle.registers.specs.Kept.{fits}
 use Rattle.registers.specs.declared.Named.the-variants.{Is}
 use Rattle.chip.specs.Write.{readOnly, waits}
-use Rattle.chip.proofs.Writes.{judged-nowhere, judged-read-only, judged-stray, judged-full, judged-to}
+use Rattle.chip.specs.declared.state.Fit.the-variants.{Yes}
+use Rattle.chip.proofs.Writes.{judged-unfit, judged-nowhere, judged-read-only, judged-stray, judged-full, judged-to}
 use Rattle.chip.proofs.write.judged.Statement.{statement}
 use Rattle.chip.proofs.write.judged.Tie as tie
 
--- past the first test the address names named-at register
-there : (c : tie.After-known-told) → named (c .before .before .before .before .before .args .address) ≡ Is (c .before .named .given .0 .0)
+-- past the first test the call may go on
+going : (c : tie.After-enum-told) → c .before .before .args .fit ≡ Yes
+going c = c .enum-told .given .1
+
+-- past the second the address names a register
+there : (c : tie.After-known-told2) → named (c .before .before .before .before .before .before .before .args .address) ≡ Is (c .before .named .given .0 .0)
 there c = sym (c .before .before .before .at .ensures) ∙ c .before .named .given .1
 
--- past the second it can be written
+-- past the third it can be written
 writable : (c : tie.Else1) → readOnly (c .before .before .before .named .given .0 .0) ≡ false
 writable c = sym (c .before .read-only .ensures) ∙ c .if1 .left
 
--- past the third the value has no stray bits
-clean : (c : tie.Else2) → fits (c .before .before .before .before .before .named .given .0 .0) (c .before .before .before .before .before .before .before .before .before .args .value) ≡ true
+-- past the fourth the value has no stray bits
+clean : (c : tie.Else2)
+    → fits (c .before .before .before .before .before .named .given .0 .0) (c .before .before .before .before .before .before .before .before .before .before .before .args .value) ≡ true
 clean c = sym (c .before .fits2 .ensures) ∙ not-false (c .before .fits2 .result) (c .if2 .left)
+
+enum-known-fit : tie.Need-enum-known-fit
+enum-known-fit c = search needs
+
+returns : tie.Need-returns
+returns c =
+    let given = c .before .before .before .args in
+    judged-unfit (given .fit) (given .address) (given .value) (given .full) _ (c .before .fit .given .1)
+
+enum-told : tie.Need-enum-told
+enum-told c = search needs
 
 place-requires : tie.Need-place-requires
 place-requires c κs = search needs
@@ -32,50 +49,41 @@ at-requires c κs = search needs
 enum-known-named : tie.Need-enum-known-named
 enum-known-named c = search needs
 
-enum-told : tie.Need-enum-told
-enum-told c = search needs
+enum-told-2 : tie.Need-enum-told-2
+enum-told-2 c = search needs
 
-returns : tie.Need-returns
-returns c =
+returns-2 : tie.Need-returns-2
+returns-2 c =
     let named-at = c .before .before in
-    let given = named-at .before .before .args in
-    judged-nowhere (given .address) (given .value) (given .full) _ (named-at .before .place .ensures) (sym (named-at .at .ensures) ∙ c .enum-told .given .1)
+    let placed = named-at .before in
+    let given = placed .before .before .before .args in
+    judged-nowhere (given .fit) (given .address) (given .value) (given .full) (going (placed .before)) _ (placed .place .ensures) (sym (named-at .at .ensures) ∙ c .enum-told2 .given .1)
 
 read-only-requires : tie.Need-read-only-requires
 read-only-requires c κs = search needs
 
-returns-2 : tie.Need-returns-2
-returns-2 c =
+returns-3 : tie.Need-returns-3
+returns-3 c =
     let register-at = c .before .before in
     let placed = register-at .before .before .before .before in
-    let given = placed .before .args in
-    judged-read-only (given .address) (given .value) (given .full) _ (placed .place .ensures) _ (there register-at) (sym (c .before .read-only .ensures) ∙ c .if1 .taken)
+    let given = placed .before .before .before .args in
+    judged-read-only (given .fit) (given .address) (given .value) (given .full) (going (placed .before)) _ (placed .place .ensures) _ (there register-at)
+    (sym (c .before .read-only .ensures) ∙ c .if1 .taken)
 
 fits-requires : tie.Need-fits-requires
 fits-requires c κs = search needs
 
-returns-3 : tie.Need-returns-3
-returns-3 c =
+returns-4 : tie.Need-returns-4
+returns-4 c =
     let writable-at = c .before .before in
     let register-at = writable-at .before .before in
     let placed = register-at .before .before .before .before in
-    let given = placed .before .args in
-    judged-stray (given .address) (given .value) (given .full) _ (placed .place .ensures) _ (there register-at) (writable writable-at)
+    let given = placed .before .before .before .args in
+    judged-stray (given .fit) (given .address) (given .value) (given .full) (going (placed .before)) _ (placed .place .ensures) _ (there register-at) (writable writable-at)
     (sym (c .before .fits2 .ensures) ∙ not-true (c .before .fits2 .result) (c .if2 .taken))
 
 waits-requires : tie.Need-waits-requires
 waits-requires c κs = search needs
-
-returns-4 : tie.Need-returns-4
-returns-4 c =
-    let full-at = c .before .before in
-    let clean-at = full-at .before in
-    let writable-at = clean-at .before .before in
-    let register-at = writable-at .before .before in
-    let placed = register-at .before .before .before .before in
-    let given = placed .before .args in
-    judged-full (given .address) (given .value) (given .full) _ (placed .place .ensures) _ (there register-at) (writable writable-at) (clean clean-at)
-    (ap (λ (full : Bool). full && waits (register-at .before .named .given .0 .0)) (full-at .if3 .taken) ∙ sym (c .before .waits .ensures) ∙ c .if4 .taken)
 
 returns-5 : tie.Need-returns-5
 returns-5 c =
@@ -84,34 +92,48 @@ returns-5 c =
     let writable-at = clean-at .before .before in
     let register-at = writable-at .before .before in
     let placed = register-at .before .before .before .before in
-    let given = placed .before .args in
-    judged-to (given .address) (given .value) (given .full) _ (placed .place .ensures) _ (there register-at) (writable writable-at) (clean clean-at)
-    (ap (λ (full : Bool). full && waits (register-at .before .named .given .0 .0)) (full-at .if3 .taken) ∙ sym (c .before .waits .ensures) ∙ c .if4 .left)
+    let given = placed .before .before .before .args in
+    judged-full (given .fit) (given .address) (given .value) (given .full) (going (placed .before)) _ (placed .place .ensures) _ (there register-at) (writable writable-at) (clean clean-at)
+    (ap (λ (full : Bool). full && waits (register-at .before .named .given .0 .0)) (full-at .if3 .taken) ∙ sym (c .before .waits .ensures) ∙ c .if4 .taken)
 
 returns-6 : tie.Need-returns-6
 returns-6 c =
+    let full-at = c .before .before in
+    let clean-at = full-at .before in
+    let writable-at = clean-at .before .before in
+    let register-at = writable-at .before .before in
+    let placed = register-at .before .before .before .before in
+    let given = placed .before .before .before .args in
+    judged-to (given .fit) (given .address) (given .value) (given .full) (going (placed .before)) _ (placed .place .ensures) _ (there register-at) (writable writable-at) (clean clean-at)
+    (ap (λ (full : Bool). full && waits (register-at .before .named .given .0 .0)) (full-at .if3 .taken) ∙ sym (c .before .waits .ensures) ∙ c .if4 .left)
+
+returns-7 : tie.Need-returns-7
+returns-7 c =
     let clean-at = c .before in
     let writable-at = clean-at .before .before in
     let register-at = writable-at .before .before in
     let placed = register-at .before .before .before .before in
-    let given = placed .before .args in
-    judged-to (given .address) (given .value) (given .full) _ (placed .place .ensures) _ (there register-at) (writable writable-at) (clean clean-at)
+    let given = placed .before .before .before .args in
+    judged-to (given .fit) (given .address) (given .value) (given .full) (going (placed .before)) _ (placed .place .ensures) _ (there register-at) (writable writable-at) (clean clean-at)
     (ap (λ (full : Bool). full && waits (register-at .before .named .given .0 .0)) (c .if3 .left))
 
 pub judged-spec : {M : Type 1} → statement M
 judged-spec =
     tie.close
     (tie.spec
+    enum-known-fit
+    returns
+    enum-told
     place-requires
     at-requires
     enum-known-named
-    enum-told
-    returns
-    read-only-requires
+    enum-told-2
     returns-2
-    fits-requires
+    read-only-requires
     returns-3
-    waits-requires
+    fits-requires
     returns-4
+    waits-requires
     returns-5
-    returns-6)
+    returns-6
+    returns-7)

@@ -3,7 +3,7 @@ use Prim.Native.Nat.{_<_}
 use mathlib.Core.Path.{refl, sym, _∙_}
 use native.Mathlib.Omega.{arith}
 use borrow.Author.Needs.{needs}
-use borrow.Author.Tests.{leb-false}
+use borrow.Author.Tests.{leb-false, not-true, not-false}
 use Rattle.queue.specs.Queue.{full, pushed}
 use Rattle.queue.proofs.Order.{pushed-is}
 use Rattle.queue.proofs.Queue.pushed.Statement.{statement}
@@ -13,16 +13,12 @@ use Rattle.queue.proofs.Queue.pushed.Lts as lts
 use Rattle.queue.proofs.Queue.full.Reads as full-reads
 
 -- past the test there is room
-more : (c : lts.Else1 (full-reads.Asked, full-reads.Learnt) reads.Pre reads.Post) → c .before .before .args .t1 .waiting < 64
+more : (c : lts.Then1 (full-reads.Asked, full-reads.Learnt) reads.Pre reads.Post) → c .before .before .args .t1 .waiting < 64
 unfolding full
-more c = leb-false _ _ (sym (c .before .full .ensures) ∙ c .if1 .left)
+more c = leb-false _ _ (sym (c .before .full .ensures) ∙ not-true (c .before .full .result) (c .if1 .taken))
 
 full-requires : tie.Need-full-requires
 full-requires c κs = search needs
-
-returns : tie.Need-returns
-unfolding pushed
-returns c = simp (← c .before .full .ensures, c .if1 .taken) refl
 
 cast-end : tie.Need-cast-end
 cast-end c = search needs
@@ -36,10 +32,14 @@ element-set-from-write c = omega (arith, more c)
 add-self : tie.Need-add-self
 add-self c = omega (arith, more c)
 
+returns : tie.Need-returns
+returns c = sym (pushed-is _ (c .before .before .args .write) (more c))
+
 returns-2 : tie.Need-returns-2
-returns-2 c = sym (pushed-is _ (c .before .before .args .write) (more c))
+unfolding pushed
+returns-2 c = simp (← c .before .full .ensures, not-false (c .before .full .result) (c .if1 .left)) refl
 
 pub pushed-spec : {M : Type 1} → statement M
 pushed-spec =
     tie.close
-    (tie.spec full-requires returns cast-end mul-write element-set-from-write add-self returns-2)
+    (tie.spec full-requires cast-end mul-write element-set-from-write add-self returns returns-2)

@@ -29,9 +29,10 @@ signals-requires c κs = search needs
 
 step-requires : tie.Need-step-requires
 step-requires c κs =
-    let e = c .before .before in
-    let f = e .before .before in
-    fit-says _ _ (sym (f .fit .ensures) ∙ e .enum-told .given .1)
+    let g = c .before in
+    let e = g .before in
+    let fine = fit-says _ _ (sym (e .before .before .fit .ensures) ∙ e .enum-told .given .1) in
+    (fine .0, fine .1, sym (ap (λ (signals : Signals). signals .blank) (g .signals .ensures)))
 
 same-length : tie.Need-same-length
 same-length c = search needs

@@ -44,7 +44,10 @@ signals-requires : tie.Need-signals-requires
 signals-requires c κs = search needs
 
 step-requires : tie.Need-step-requires
-step-requires c κs = (c .before .before .before .before .steps .ensures .1, c .before .before .before .before .steps .ensures .2)
+step-requires c κs =
+    let g = c .before in
+    let p = g .before .before .before in
+    (p .steps .ensures .1, p .steps .ensures .2, sym (ap (λ (signals : Signals). signals .blank) (g .signals .ensures)))
 
 same-length : tie.Need-same-length
 same-length c = search needs

@@ -9,11 +9,11 @@ use Rattle.timing.specs.declared.Walk.{Walk}
 use Rattle.registers.specs.Store.{storeLength}
 use Rattle.chip.specs.State.{goodState, withPosition}
 use Rattle.chip.specs.Call.{Chip}
-use Rattle.chip.specs.Dot.{afterDot}
+use Rattle.chip.specs.Dot.{signalsOf, afterDot}
 use Rattle.chip.specs.Dots.{afterDots}
 use Rattle.chip.specs.Inner.{walk}
 use Rattle.chip.specs.declared.state.State.{State}
-use Rattle.chip.proofs.Runs.{onward, Underway, walk-over, walk-on}
+use Rattle.chip.proofs.Runs.{onward, walk-blanked, Underway, walk-over, walk-on}
 use Rattle.chip.proofs.state.State.steps.Statement.{statement}
 use Rattle.chip.proofs.state.State.steps.Tie as tie
 
@@ -60,7 +60,11 @@ step-requires : tie.Need-step-requires Inv-loop μ-loop
 step-requires c κs =
     let p = c .before .before .before in
     let l = p .before .before .before .loop in
-    (subst (λ (state : State). goodState state ≡ true) (sym (there p)) (onward (l .state) (l .left) (l .inv .2) .0), l .inv .3)
+    let left = ap (λ (walk : Walk). walk .left) (p .before .walk .ensures) in (
+      subst (λ (state : State). goodState state ≡ true) (sym (there p)) (onward (l .state) (l .left) (l .inv .2) .0),
+      l .inv .3,
+      subst (λ (state : State). signalsOf state .blank ≡ true) (sym (there p)) (walk-blanked (l .state) (l .left) (omega (arith, left, c .before .if1 .left))),
+    )
 
 sub-left : tie.Need-sub-left Inv-loop μ-loop
 sub-left c = search needs
