@@ -51,7 +51,7 @@ fn rooms_fit(store: usize, table: usize, normal: usize, overlay: usize, output: 
 }
 
 // 11, and then 5.
-pub(crate) fn fit(
+pub fn fit(
     held: Counts,
     store: usize,
     table: usize,

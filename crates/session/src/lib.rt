@@ -1,7 +1,7 @@
 // A recorded session: what it holds, and one record of it at a time.
 mod acts;
 pub mod answers;
-mod fit;
+pub mod fit;
 mod keep;
 pub mod session;
 pub mod step;

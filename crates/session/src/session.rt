@@ -5,6 +5,7 @@ ghost use Rattle.session.specs.Lent.{sessionOf};
 use chip::state::State;
 
 // The chip's state, how many bytes of the lent table and rows are there, and how many records stood before the next one.
+#[repr(C)]
 pub struct Session {
     pub state: State,
     pub table: usize,
