@@ -1,218 +1,156 @@
-//! How long calls on the chip take: the proved library beside the plain Rust model.
-
-#[path = "../tests/library.rs"]
-mod library;
-mod measure;
-#[path = "../tests/model/mod.rs"]
-mod model;
+//! Dots, writes and reads.
 
 use std::hint::black_box;
-use std::time::{Duration, Instant};
+use std::time::Instant;
 
-use model::chip::State;
-use model::queue::{Queue, Waiting};
-use model::registers::STORE_WORDS;
+use crate::calls::{ByValue, Calls, Chip, Library, Model};
+use crate::measure::{Row, Timed, Unit, NANOSECONDS};
+use crate::model::chip::State;
+use crate::model::queue::{Queue, Waiting};
 
 /// The longest run that a session file has.
 const LONGEST_RUN: u32 = 16_777_216;
 
-/// The run by which a dot is measured.
+/// The run by which a dot of a run is measured.
 const RUN: u32 = 4_194_304;
+
+/// A time of such a run, as that of each of its dots.
+const A_DOT: Unit = ("ns/dot", RUN as f64);
 
 /// The dots of a frame at the timings of 1280x1024.
 const FRAME: u32 = 1688 * 1066;
 
-fn main() {
-    measure::print_head("nanoseconds of a call, or of a dot where a row says so");
-    for row in rows() {
-        row.same_work();
-        measure::print_row(row.what, row.nanoseconds());
-    }
+/// Every row, of each kind of call.
+pub fn rows() -> impl Iterator<Item = Row> {
+    let fresh = State::FRESH;
+    let timed = at_1280x1024(fresh);
+    let waiting = with_full_queue(timed);
+    [dots(fresh, timed, waiting), writes(timed), reads(timed, waiting)].into_iter().flatten()
 }
 
-fn rows() -> [Row; 12] {
-    let fresh = library::fresh();
-    let timed = at_1280x1024(fresh);
-    [
-        Row::new("one dot, nothing waiting", timed, 1, one_dot::<Library>, one_dot::<Model>),
-        Row::new("16,777,216 dots, nothing waiting", timed, 1, longest_run::<Library>, longest_run::<Model>),
-        Row::new(
-            "a dot of a run, 64 waiting and never blanked, 1280x1024",
-            never_blanked(with_full_queue(timed)),
-            RUN,
-            run::<Library>,
-            run::<Model>,
-        ),
-        Row::new(
-            "a dot of a run, 64 waiting and never blanked, total 1x1",
-            with_full_queue(fresh),
-            RUN,
-            run::<Library>,
-            run::<Model>,
-        ),
-        Row::new(
-            "a dot of a run, 64 waiting, blank windows past 1280x1024",
-            blanked_past_the_total(with_full_queue(timed)),
-            RUN,
-            run::<Library>,
-            run::<Model>,
-        ),
-        Row::new(
-            "a dot of a run, 64 waiting, blank windows past total 1x1",
-            blanked_past_the_total(with_full_queue(fresh)),
-            RUN,
-            run::<Library>,
-            run::<Model>,
-        ),
-        Row::new("a frame of 1280x1024 while 64 wait and drain", timed, 1, frame::<Library>, frame::<Model>),
-        Row::new("a control write", timed, 1, control_write::<Library>, control_write::<Model>),
-        Row::new(
-            "a colour write that joins, and the blanked dot that applies it",
-            always_blanked(fresh),
-            1,
-            colour_write_and_dot::<Library>,
-            colour_write_and_dot::<Model>,
-        ),
-        Row::new("a read of a map entry, nothing waiting", timed, 1, map_read::<Library>, map_read::<Model>),
-        Row::new("a read of word 9, nothing waiting", timed, 1, room_read::<Library>, room_read::<Model>),
-        Row::new("a read of word 9, 64 waiting", with_full_queue(timed), 1, room_read::<Library>, room_read::<Model>),
+/// Single dots and runs of them, with and without waiting writes.
+fn dots(fresh: State, timed: State, waiting: State) -> Vec<Row> {
+    let waiting_1x1 = with_full_queue(fresh);
+    vec![
+        row::<Dot>("dot, nothing waiting", NANOSECONDS, timed),
+        row::<Dot>("dot, 64 waiting, never blanked", NANOSECONDS, never_blanked(waiting)),
+        row::<Dots<LONGEST_RUN>>("run of 16,777,216 dots, nothing waiting", NANOSECONDS, timed),
+        row::<Dots<RUN>>("dot of a run, 64 waiting, never blanked", A_DOT, never_blanked(waiting)),
+        row::<Dots<RUN>>("dot of a run, 64 waiting, never blanked, total 1x1", A_DOT, waiting_1x1),
+        row::<Dots<RUN>>("dot of a run, 64 waiting, blanked past the total", A_DOT, blanked_past(waiting)),
+        row::<Dots<RUN>>("dot of a run, 64 waiting, blanked past total 1x1", A_DOT, blanked_past(waiting_1x1)),
+        row::<Frame>("frame of 1280x1024, 64 waiting, which drain", NANOSECONDS, timed),
     ]
 }
 
-fn one_dot<C: Calls>(chip: &mut Chip) {
-    C::dot(chip);
+/// Writes that act at once, one that is refused and one that waits.
+fn writes(timed: State) -> Vec<Row> {
+    vec![
+        row::<Write<0x20, 0x0010_0020>>("write of a control word", NANOSECONDS, timed),
+        row::<Write<0x03_0014, 0x0010_2030>>("write of a gamma word", NANOSECONDS, timed),
+        row::<Write<0x05_0000, 0>>("write that is refused: no register there", NANOSECONDS, timed),
+        row::<ColourWrite>("colour write that waits, and the dot that applies it", NANOSECONDS, always_blanked(timed)),
+    ]
 }
 
-fn longest_run<C: Calls>(chip: &mut Chip) {
-    C::dots(chip, LONGEST_RUN);
+/// A read of each kind.
+fn reads(timed: State, waiting: State) -> Vec<Row> {
+    vec![
+        row::<Read<0x20>>("read of a control word", NANOSECONDS, timed),
+        row::<Read<0x02_0014>>("read of a colour word", NANOSECONDS, timed),
+        row::<Read<0x24>>("read of word 9, the room", NANOSECONDS, timed),
+        row::<Read<0x24>>("read of word 9, 64 waiting", NANOSECONDS, waiting),
+        row::<Read<0x28>>("read of word 10, the position", NANOSECONDS, timed),
+    ]
 }
 
-fn run<C: Calls>(chip: &mut Chip) {
-    C::dots(chip, RUN);
-}
-
-fn frame<C: Calls>(chip: &mut Chip) {
-    chip.state.queue = full_queue();
-    C::dots(chip, FRAME);
-}
-
-fn control_write<C: Calls>(chip: &mut Chip) {
-    C::write(chip, 0x20, 0x0010_0020);
-}
-
-fn colour_write_and_dot<C: Calls>(chip: &mut Chip) {
-    C::write(chip, 0x02_0014, 0x0010_2030);
-    C::dot(chip);
-}
-
-fn map_read<C: Calls>(chip: &mut Chip) {
-    C::read(chip, 0x02_0014);
-}
-
-fn room_read<C: Calls>(chip: &mut Chip) {
-    C::read(chip, 0x24);
-}
-
-/// What is measured, from which state, and by how many dots the time of the work is divided.
-struct Row {
-    what: &'static str,
-    start: State,
-    dots: u32,
-    library: fn(&mut Chip),
-    model: fn(&mut Chip),
-}
-
-impl Row {
-    fn new(what: &'static str, start: State, dots: u32, library: fn(&mut Chip), model: fn(&mut Chip)) -> Self {
-        Self { what, start, dots, library, model }
+/// Some work from a state on. Library and model must answer and leave the same.
+fn row<W: Work>(what: &str, unit: Unit, start: State) -> Row {
+    let outcome = |work: fn(&mut Chip) -> u32| {
+        let mut chip = Chip::new(start);
+        (work(&mut chip), chip)
+    };
+    let model = outcome(W::on::<Model>);
+    assert!(outcome(W::on::<Library>) == model && outcome(W::on::<ByValue>) == model, "{what}: not the same work");
+    Row {
+        what: what.to_string(),
+        unit,
+        proved: timed(start, W::on::<Library>),
+        model: timed(start, W::on::<Model>),
+        by_value: Some(timed(start, W::on::<ByValue>)),
     }
+}
 
-    /// Both must leave the same behind.
-    fn same_work(&self) {
-        let (mut library, mut model) = (Chip::new(self.start), Chip::new(self.start));
-        (self.library)(&mut library);
-        (self.model)(&mut model);
-        assert!(library.state == model.state && library.store == model.store, "{}: not the same work", self.what);
-    }
-
-    /// The best times of library and model.
-    fn nanoseconds(&self) -> (f64, f64) {
-        let (library, model) =
-            measure::nanoseconds(|times| self.time(self.library, times), |times| self.time(self.model, times));
-        (library / f64::from(self.dots), model / f64::from(self.dots))
-    }
-
-    fn time(&self, work: fn(&mut Chip), times: u32) -> Duration {
-        let mut chip = Chip::new(self.start);
+/// How long some work takes so many times, from a state on.
+fn timed(start: State, work: fn(&mut Chip) -> u32) -> Timed {
+    Box::new(move |times| {
+        let mut chip = Chip::new(start);
         let clock = Instant::now();
         for _ in 0..times {
-            work(black_box(&mut chip));
+            black_box(work(black_box(&mut chip)));
         }
         clock.elapsed()
+    })
+}
+
+/// What a row measures; the answer is that of the last call.
+trait Work {
+    fn on<C: Calls>(chip: &mut Chip) -> u32;
+}
+
+/// One dot.
+struct Dot;
+
+impl Work for Dot {
+    fn on<C: Calls>(chip: &mut Chip) -> u32 {
+        C::dot(chip)
     }
 }
 
-/// A state and its store.
-struct Chip {
-    state: State,
-    store: Vec<u32>,
-}
+/// So many dots.
+struct Dots<const COUNT: u32>;
 
-impl Chip {
-    fn new(state: State) -> Self {
-        Self { state, store: vec![0; STORE_WORDS] }
+impl<const COUNT: u32> Work for Dots<COUNT> {
+    fn on<C: Calls>(chip: &mut Chip) -> u32 {
+        C::dots(chip, COUNT)
     }
 }
 
-/// The calls, on the library and on the model.
-trait Calls {
-    fn write(chip: &mut Chip, address: u32, value: u32);
-    fn read(chip: &mut Chip, address: u32);
-    fn dot(chip: &mut Chip);
-    fn dots(chip: &mut Chip, count: u32);
-}
+/// The dots of a frame, from a full queue on.
+struct Frame;
 
-struct Library;
-
-impl Calls for Library {
-    fn write(chip: &mut Chip, address: u32, value: u32) {
-        let answer = library::write(chip.state, &mut chip.store, black_box(address), black_box(value));
-        chip.state = black_box(&answer).state;
-    }
-
-    fn read(chip: &mut Chip, address: u32) {
-        let answer = library::read(chip.state, &mut chip.store, black_box(address));
-        chip.state = black_box(&answer).state;
-    }
-
-    fn dot(chip: &mut Chip) {
-        let answer = library::dot(chip.state, &mut chip.store);
-        chip.state = black_box(&answer).state;
-    }
-
-    fn dots(chip: &mut Chip, count: u32) {
-        let answer = library::dots(chip.state, &mut chip.store, black_box(count));
-        chip.state = black_box(&answer).state;
+impl Work for Frame {
+    fn on<C: Calls>(chip: &mut Chip) -> u32 {
+        chip.state.queue = full_queue();
+        C::dots(chip, FRAME)
     }
 }
 
-struct Model;
+/// One register write.
+struct Write<const ADDRESS: u32, const VALUE: u32>;
 
-impl Calls for Model {
-    fn write(chip: &mut Chip, address: u32, value: u32) {
-        let _ = black_box(chip.state.write(&mut chip.store, black_box(address), black_box(value)));
+impl<const ADDRESS: u32, const VALUE: u32> Work for Write<ADDRESS, VALUE> {
+    fn on<C: Calls>(chip: &mut Chip) -> u32 {
+        C::write(chip, ADDRESS, VALUE)
     }
+}
 
-    fn read(chip: &mut Chip, address: u32) {
-        let _ = black_box(chip.state.read(&chip.store, black_box(address)));
+/// A colour write, and a dot.
+struct ColourWrite;
+
+impl Work for ColourWrite {
+    fn on<C: Calls>(chip: &mut Chip) -> u32 {
+        C::write(chip, 0x02_0014, 0x0010_2030);
+        C::dot(chip)
     }
+}
 
-    fn dot(chip: &mut Chip) {
-        let _ = black_box(chip.state.dot(&mut chip.store));
-    }
+/// One register read.
+struct Read<const ADDRESS: u32>;
 
-    fn dots(chip: &mut Chip, count: u32) {
-        let _ = black_box(chip.state.dots(&mut chip.store, black_box(count)));
+impl<const ADDRESS: u32> Work for Read<ADDRESS> {
+    fn on<C: Calls>(chip: &mut Chip) -> u32 {
+        C::read(chip, ADDRESS)
     }
 }
 
@@ -231,27 +169,32 @@ fn at_1280x1024(mut state: State) -> State {
     state
 }
 
+/// Both blank windows are empty.
 fn never_blanked(mut state: State) -> State {
     state.control[4..6].fill(0);
     state
 }
 
 /// Both blank windows hold somewhere, but nowhere that the beam comes to.
-fn blanked_past_the_total(mut state: State) -> State {
+fn blanked_past(mut state: State) -> State {
     state.control[4..6].fill(fields(2000, 2001));
     state
 }
 
+/// One dot in all, and it is blanked.
 fn always_blanked(mut state: State) -> State {
+    state.control[1..6].fill(0);
     state.control[4] = fields(0, 1);
     state
 }
 
+/// The state with as many writes waiting as can.
 fn with_full_queue(mut state: State) -> State {
     state.queue = full_queue();
     state
 }
 
+/// 64 writes that wait, to as many entries.
 fn full_queue() -> Queue {
     Queue { waiting: 64, slots: std::array::from_fn(|slot| Waiting { entry: slot as u32, colour: 0x0010_2030 }) }
 }

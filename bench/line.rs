@@ -1,21 +1,17 @@
-//! How long lines of 2,048 pixels take: the proved library beside the plain Rust model.
-
-#[path = "../tests/library.rs"]
-mod library;
-mod measure;
-#[path = "../tests/model/mod.rs"]
-mod model;
-#[path = "../tests/numbers.rs"]
-mod numbers;
+//! Lines of 2,048 pixels.
 
 use std::hint::black_box;
-use std::time::{Duration, Instant};
+use std::time::Instant;
 
-use model::chip::State;
-use model::line::Lent;
-use model::registers::STORE_WORDS;
-use numbers::Numbers;
+use crate::calls::number;
+use crate::library;
+use crate::measure::{Row, Timed, NANOSECONDS};
+use crate::model::chip::State;
+use crate::model::line::Lent;
+use crate::model::registers::STORE_WORDS;
+use crate::numbers::Numbers;
 
+/// The pixels of a line.
 const WIDTH: usize = 2048;
 
 /// The line that is drawn of as many as there can be.
@@ -31,23 +27,50 @@ const DEPTH_32: u32 = 16;
 const BYPASS: u32 = 1 << 9;
 const OVERLAY_ALLOWED: u32 = 1 << 10;
 
-fn main() {
-    measure::print_head("nanoseconds of a line of 2,048 pixels");
-    for (what, line) in rows() {
-        line.same_work(what);
-        let times = measure::nanoseconds(|times| line.time(of_library, times), |times| line.time(of_model, times));
-        measure::print_row(what, times);
-    }
+/// The formats by number.
+const FORMATS: [&str; 6] = ["index of 8 bits", "index of 12 bits", "3-3-2", "4-4-4", "5-5-5", "8-8-8"];
+
+/// The first format that is listed at depth 32 only.
+const DEEP_FORMAT: u32 = 5;
+
+/// Each format at each depth that lists it, one past gamma, and one of everything.
+pub fn rows() -> impl Iterator<Item = Row> {
+    let shallow = (0..DEEP_FORMAT).map(|of| in_format(of, 0, "depth 16, gamma", 0));
+    let deep = (0..=DEEP_FORMAT).map(|of| in_format(of, DEPTH_32, "depth 32, gamma", 0));
+    let others = [
+        in_format(DEEP_FORMAT, DEPTH_32, "depth 32, gamma bypassed", BYPASS),
+        ("all formats in 256 runs by ID, overlay, cursor".to_string(), mixed()),
+    ];
+    shallow.chain(deep).chain(others).map(|(what, line)| row(format!("line, {what}"), line))
 }
 
-fn rows() -> [(&'static str, Line); 5] {
-    [
-        ("index of 8 bits, gamma bypassed", Line::new(0, |_| BYPASS)),
-        ("index of 12 bits, gamma", Line::new(0, |_| format(1))),
-        ("5-5-5, gamma", Line::new(0, |_| format(4))),
-        ("8-8-8, gamma", Line::new(DEPTH_32, |_| format(5))),
-        ("all formats in 256 runs, overlay and cursor", mixed()),
-    ]
+/// A line in one format, and what it is.
+fn in_format(of: u32, switches: u32, how: &str, bits: u32) -> (String, Line) {
+    (format!("{}, {how}", FORMATS[of as usize]), Line::new(switches, |_| format(of) | bits))
+}
+
+/// A line that library and model draw the same.
+fn row(what: String, line: Line) -> Row {
+    let drawn = |draw: fn(&mut Line) -> u32| {
+        let mut line = line.clone();
+        (draw(&mut line), line.output)
+    };
+    let model = drawn(of_model);
+    assert!(model.0 == 0 && drawn(of_library) == model, "{what}: not the same work");
+    Row { what, unit: NANOSECONDS, proved: timed(&line, of_library), model: timed(&line, of_model), by_value: None }
+}
+
+/// How long it takes to draw a line so many times.
+fn timed(line: &Line, draw: fn(&mut Line) -> u32) -> Timed {
+    let line = line.clone();
+    Box::new(move |times| {
+        let mut line = line.clone();
+        let clock = Instant::now();
+        for _ in 0..times {
+            black_box(draw(black_box(&mut line)));
+        }
+        clock.elapsed()
+    })
 }
 
 /// Windows of all formats in turn, 8 pixels each, half of them past gamma; half of the overlay is transparent.
@@ -67,11 +90,12 @@ fn mixed() -> Line {
     line
 }
 
-/// A window entry's format, and its bank.
+/// A window entry's format.
 fn format(number: u32) -> u32 {
     number << 1
 }
 
+/// A window entry's bank.
 fn bank(number: u32) -> u32 {
     number << 4
 }
@@ -90,7 +114,7 @@ struct Line {
 impl Line {
     /// A line with some switches on and an entry for each ID.
     fn new(switches: u32, entry: impl Fn(u32) -> u32) -> Self {
-        let mut state = library::fresh();
+        let mut state = State::FRESH;
         state.control[0] = switches;
         state.control[1] = 0x0FFF_0FFF;
         state.control[7] = 0x07FF_07FF;
@@ -110,25 +134,9 @@ impl Line {
             output: vec![0; WIDTH],
         }
     }
-
-    /// Both must draw the same.
-    fn same_work(&self, what: &str) {
-        let (mut library, mut model) = (self.clone(), self.clone());
-        assert_eq!((of_library(&mut library), of_model(&mut model)), (0, 0), "{what}: refused");
-        assert!(library.output == model.output, "{what}: not the same colours");
-    }
-
-    fn time(&self, draw: fn(&mut Self) -> u32, times: u32) -> Duration {
-        let mut line = self.clone();
-        let clock = Instant::now();
-        for _ in 0..times {
-            black_box(draw(black_box(&mut line)));
-        }
-        clock.elapsed()
-    }
 }
 
-/// Draws, and answers the number.
+/// Draws by the library, and answers the number.
 fn of_library(line: &mut Line) -> u32 {
     let Line { state, store, table, normal, overlay, output } = line;
     let answer = library::line(*state, black_box(Y), library::Lent { store, table, normal, overlay, output });
@@ -136,8 +144,8 @@ fn of_library(line: &mut Line) -> u32 {
     answer.number
 }
 
+/// Draws by the model, alike.
 fn of_model(line: &mut Line) -> u32 {
     let Line { state, store, table, normal, overlay, output } = line;
-    let answer = state.line(black_box(Y), Lent { store, table, normal, overlay }, output);
-    black_box(answer).map_or_else(|(number, _)| number, |()| 0)
+    number(black_box(state.line(black_box(Y), Lent { store, table, normal, overlay }, output)))
 }

@@ -1,43 +1,36 @@
-//! How long whole sessions take: the proved program beside the plain model as a program. Their paths are the words.
-
-mod measure;
-#[path = "../tests/numbers.rs"]
-mod numbers;
-#[path = "../tests/session/recorded.rs"]
-mod recorded;
+//! Whole sessions, through the programs. A listing is thrown away.
 
 use std::fs;
 use std::process::{Command, Stdio};
-use std::time::{Duration, Instant};
+use std::time::Instant;
 
-use numbers::Numbers;
+use crate::measure::{Row, Timed, MILLISECONDS};
+use crate::numbers::Numbers;
+use crate::recorded;
 
 /// Where the session files are put.
 const FOLDER: &str = "target/bench";
 
-fn main() {
-    let mut words = std::env::args().skip(1);
-    let mut path = || words.next().expect("the paths of both programs");
-    let (proved, model) = (path(), path());
-    measure::print_head("milliseconds of a whole run over a file, with the listing thrown away");
-    for (what, name, session) in ROWS {
+/// A session: what it is, the name of its file, and how that comes to be.
+type Session = (&'static str, &'static str, fn(&mut Numbers) -> Vec<u8>);
+
+/// The sessions that are measured.
+const SESSIONS: [Session; 3] = [
+    ("session of 2,000 lines in 8-8-8, a row for each", "lines", lines),
+    ("session of a million writes, dots and short rows", "records", records),
+    ("session of 200 MB of rows", "rows", rows_only),
+];
+
+/// Each session by both programs, whose paths are given.
+pub fn rows<'a>(proved: &'a str, model: &'a str) -> impl Iterator<Item = Row> + 'a {
+    SESSIONS.into_iter().map(|(what, name, session)| {
         let file = format!("{FOLDER}/{name}.session");
         fs::write(&file, session(&mut Numbers::new(20_010_417))).expect("the file is written");
-        assert!(listing(&proved, &file) == listing(&model, &file), "{what}: not the same listing");
-        let (proved, model) =
-            measure::nanoseconds(|times| time(&proved, &file, times), |times| time(&model, &file, times));
-        measure::print_row(what, (proved / 1e6, model / 1e6));
-    }
+        assert!(listing(proved, &file) == listing(model, &file), "{what}: not the same listing");
+        let what = what.to_string();
+        Row { what, unit: MILLISECONDS, proved: timed(proved, &file), model: timed(model, &file), by_value: None }
+    })
 }
-
-/// What is measured, the name of its file, and how the file comes to be.
-type Row = (&'static str, &'static str, fn(&mut Numbers) -> Vec<u8>);
-
-const ROWS: [Row; 3] = [
-    ("2,000 lines of 2,048 pixels, 8-8-8, gamma, a row for each", "lines", lines),
-    ("a million records: 5 writes, 3 runs of dots, 2 rows in turn", "records", records),
-    ("200 MB of rows, of 8,192 and 2,048 bytes in turn", "rows", rows),
-];
 
 /// What a program lists of a file.
 fn listing(program: &str, file: &str) -> Vec<u8> {
@@ -47,13 +40,16 @@ fn listing(program: &str, file: &str) -> Vec<u8> {
 }
 
 /// How long a program takes for a file so many times, from its start to its end.
-fn time(program: &str, file: &str, times: u32) -> Duration {
-    let clock = Instant::now();
-    for _ in 0..times {
-        let status = Command::new(program).arg(file).stdout(Stdio::null()).status().expect("the program runs");
-        assert!(status.success(), "{program}: {status}");
-    }
-    clock.elapsed()
+fn timed(program: &str, file: &str) -> Timed {
+    let (program, file) = (program.to_string(), file.to_string());
+    Box::new(move |times| {
+        let clock = Instant::now();
+        for _ in 0..times {
+            let status = Command::new(&program).arg(&file).stdout(Stdio::null()).status().expect("the program runs");
+            assert!(status.success(), "{program}: {status}");
+        }
+        clock.elapsed()
+    })
 }
 
 /// A screen of 2,048 by 2,048 at depth 32; window 0 is 8-8-8 through a gamma of random words.
@@ -92,13 +88,15 @@ fn records(numbers: &mut Numbers) -> Vec<u8> {
     file
 }
 
-fn rows(numbers: &mut Numbers) -> Vec<u8> {
+/// A row of each kind of the greatest length in turn, as many as fill the file.
+fn rows_only(numbers: &mut Numbers) -> Vec<u8> {
     let pair = [recorded::normal(&row(numbers, 8192)), recorded::overlay(&row(numbers, 2048))].concat();
     let mut file = pair.repeat(200_000_000 / pair.len());
     file.extend(recorded::END);
     file
 }
 
+/// A row of so many bytes.
 fn row(numbers: &mut Numbers, bytes: u32) -> Vec<u8> {
     (0..bytes).map(|_| numbers.next() as u8).collect()
 }

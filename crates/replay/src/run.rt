@@ -11,6 +11,7 @@ use crate::text::write_out;
 use session::answers::Shows;
 use session::session::Session;
 use session::step::Answer;
+use session::step::Stepped;
 use session::step::step;
 
 // Lists what an answer shows.
@@ -65,12 +66,17 @@ fn steps(
     overlay: &mut [u8],
     output: &mut [u32],
 ) -> Course {
-    let mut session = Session::new();
+    let mut stepped = Stepped {
+        session: Session::new(),
+        place: 0,
+        answer: Answer::More,
+    };
     let mut course = Course::start();
     let mut turns = u64::MAX;
     while turns > 0 && course.goes_on() {
         let to = course.to;
-        let stepped = step(
+        let session = stepped.session;
+        stepped = step(
             session,
             &input[0..to],
             course.from,
@@ -81,9 +87,7 @@ fn steps(
             overlay,
             output,
         );
-        let next = stepped.session;
         let answer = stepped.answer;
-        session = next;
         course = answered(answer, stepped.place, file, input, output, text, course);
         turns -= 1;
     }

@@ -9,7 +9,7 @@ use Rattle.replay.proofs.run.steps.Statement.{statement}
 use Rattle.replay.proofs.run.steps.Tie as tie
 
 abbrev Inv-loop : tie.InvT-loop
-Inv-loop file input₀ text₀ store₀ table₀ normal₀ overlay₀ output₀ session₀ course₀ turns₀ input text store table normal overlay output session course turns =
+Inv-loop file input₀ text₀ store₀ table₀ normal₀ overlay₀ output₀ stepped₀ course₀ turns₀ input text store table normal overlay output stepped course turns =
     (length input ≡ length input₀)
     × (length text ≡ length text₀)
     × (length store ≡ length store₀)
@@ -20,7 +20,7 @@ Inv-loop file input₀ text₀ store₀ table₀ normal₀ overlay₀ output₀ 
     × (course .to ≤ length input)
 
 abbrev μ-loop : tie.MeasureT-loop
-μ-loop file input₀ text₀ store₀ table₀ normal₀ overlay₀ output₀ session₀ course₀ turns₀ input text store table normal overlay output session course turns = turns
+μ-loop file input₀ text₀ store₀ table₀ normal₀ overlay₀ output₀ stepped₀ course₀ turns₀ input text store table normal overlay output stepped course turns = turns
 
 new-requires : tie.Need-new-requires Inv-loop μ-loop
 new-requires c κs = search needs
@@ -58,7 +58,7 @@ loop-less c = omega (arith, c .before .before .before .before .before .before .b
 loop-again : tie.Need-loop-again Inv-loop μ-loop
 loop-again c =
     let answered = c .before .before .before .before .answered in
-    let step = c .before .before .before .before .before .before .before .before .before .before .before .before .before .before .before .before .before .before .before .step in
+    let step = c .before .before .before .before .before .before .before .before .before .before .before .before .before .before .before .before .before .before .step in
     let before = c .before .before .before .before .before .before .before .before .before .before .before .before .before .before .before .before .before .before .before .before .before .before .before .before .before .before .before .before .before .before .loop .inv in (
       answered .kept .1 .1 .1 .0 ∙ before .0,
       answered .kept .1 .1 .1 .1 .1 .0 ∙ before .1,

@@ -1,0 +1,97 @@
+//! Calls on a chip: the proved library's, the model's, and the model's behind the library's interface.
+
+use std::hint::black_box;
+
+use crate::by_value;
+use crate::library;
+use crate::model::chip::{Refusal, State};
+use crate::model::registers::STORE_WORDS;
+
+/// A state and its store.
+#[derive(PartialEq)]
+pub struct Chip {
+    pub state: State,
+    store: Vec<u32>,
+}
+
+impl Chip {
+    /// A state with a store of zeros.
+    pub fn new(state: State) -> Self {
+        Self { state, store: vec![0; STORE_WORDS] }
+    }
+}
+
+/// Whose calls they are. A read answers the word, every other call its number.
+pub trait Calls {
+    fn write(chip: &mut Chip, address: u32, value: u32) -> u32;
+    fn read(chip: &mut Chip, address: u32) -> u32;
+    fn dot(chip: &mut Chip) -> u32;
+    fn dots(chip: &mut Chip, count: u32) -> u32;
+}
+
+/// Calls of a module whose functions take the state by value and hand it back.
+macro_rules! calls_of {
+    ($whose:ident, $module:ident) => {
+        impl Calls for $whose {
+            fn write(chip: &mut Chip, address: u32, value: u32) -> u32 {
+                let answer = $module::write(chip.state, &mut chip.store, black_box(address), black_box(value));
+                chip.state = black_box(&answer).state;
+                answer.number
+            }
+
+            fn read(chip: &mut Chip, address: u32) -> u32 {
+                let answer = $module::read(chip.state, &mut chip.store, black_box(address));
+                chip.state = black_box(&answer).state;
+                answer.word
+            }
+
+            fn dot(chip: &mut Chip) -> u32 {
+                let answer = $module::dot(chip.state, &mut chip.store);
+                chip.state = black_box(&answer).state;
+                answer.number
+            }
+
+            fn dots(chip: &mut Chip, count: u32) -> u32 {
+                let answer = $module::dots(chip.state, &mut chip.store, black_box(count));
+                chip.state = black_box(&answer).state;
+                answer.number
+            }
+        }
+    };
+}
+
+/// The proved library's.
+pub struct Library;
+
+calls_of!(Library, library);
+
+/// The model's, behind the library's interface.
+pub struct ByValue;
+
+calls_of!(ByValue, by_value);
+
+/// The model's, on the state where it is.
+pub struct Model;
+
+impl Calls for Model {
+    fn write(chip: &mut Chip, address: u32, value: u32) -> u32 {
+        number(black_box(chip.state.write(&mut chip.store, black_box(address), black_box(value))))
+    }
+
+    fn read(chip: &mut Chip, address: u32) -> u32 {
+        black_box(chip.state.read(&chip.store, black_box(address))).unwrap_or(0)
+    }
+
+    fn dot(chip: &mut Chip) -> u32 {
+        number(black_box(chip.state.dot(&mut chip.store)))
+    }
+
+    fn dots(chip: &mut Chip, count: u32) -> u32 {
+        number(black_box(chip.state.dots(&mut chip.store, black_box(count))))
+    }
+}
+
+/// The number of an answer; 0 where the call was done.
+pub fn number<T>(answer: Result<T, Refusal>) -> u32 {
+    answer.map_or_else(|(number, _)| number, |_| 0)
+}

@@ -1,0 +1,27 @@
+//! How long lines, dots, writes, reads and sessions take: the proved library and program beside the plain Rust model, as
+//! one table. The words are the paths of the proved program and of the model's.
+
+mod by_value;
+mod calls;
+mod chip;
+#[path = "../tests/library.rs"]
+mod library;
+mod line;
+mod measure;
+#[path = "../tests/model/mod.rs"]
+mod model;
+#[path = "../tests/numbers.rs"]
+mod numbers;
+#[path = "../tests/session/recorded.rs"]
+mod recorded;
+mod session;
+
+fn main() {
+    let mut words = std::env::args().skip(1);
+    let mut path = || words.next().expect("the paths of both programs");
+    let (proved, model) = (path(), path());
+    measure::print_head();
+    for row in line::rows().chain(chip::rows()).chain(session::rows(&proved, &model)) {
+        row.print();
+    }
+}
