@@ -16,10 +16,10 @@ use Rattle.refusals.specs.declared.Refusal.{Refusal}
 use Rattle.colour.specs.declared.entry.Entry.{Entry}
 use Rattle.pixels.specs.Cells.{pixelView}
 use Rattle.pixels.specs.Colour.{overlayCounts, colourOf}
-use Rattle.line.specs.Controls.{screenOf}
+use Rattle.setup.specs.declared.controls.Controls.{Controls}
+use Rattle.line.specs.Screen.{screenOf}
 use Rattle.line.specs.Cells.{Lent, lentOf}
 use Rattle.line.specs.Inner.{Sized, RunTold, Entries, colourBy, colourAt, Enough}
-use Rattle.line.specs.declared.controls.Controls.{Controls}
 use Rattle.line.specs.declared.runs.Run.{Run}
 use Rattle.line.specs.declared.runs.RunAt.the-variants.{Is, Refused}
 use Rattle.line.proofs.Pass.{Passing, pass-start, pass-run}

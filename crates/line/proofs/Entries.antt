@@ -28,10 +28,10 @@ use Rattle.windows.specs.declared.ids.Found.{Found}
 use Rattle.windows.specs.declared.ids.LookedUp.{LookedUp}
 use Rattle.windows.specs.declared.ids.LookedUp.the-variants.{Id, Refused as NoId}
 use Rattle.windows.proofs.Pixels.{found-serves, refused-serves}
+use Rattle.setup.specs.declared.controls.Controls.{Controls}
 use Rattle.line.specs.Cells.{Lent, lentOf, view}
 use Rattle.line.specs.Line.{inTable, startOf, idAt, definedAt, entryAt}
 use Rattle.line.specs.Inner.{PassedAt, Served, RunTold, StartTold}
-use Rattle.line.specs.declared.controls.Controls.{Controls}
 use Rattle.line.specs.declared.runs.RunAt.the-variants.{Is}
 
 -- refusals under their own names

@@ -19,10 +19,10 @@ use Rattle.formats.specs.declared.Format.the-variants.{Index8}
 use Rattle.colour.specs.declared.entry.Entry.{Entry}
 use Rattle.windows.specs.Table.{tableView}
 use Rattle.windows.proofs.Pixels.{passed-start}
+use Rattle.setup.specs.declared.controls.Controls.{Controls}
 use Rattle.line.specs.Cells.{lentOf, view}
 use Rattle.line.specs.Line.{entryAt}
 use Rattle.line.specs.Inner.{Over, PassedAt, RunTold, Entries}
-use Rattle.line.specs.declared.controls.Controls.{Controls}
 use Rattle.line.specs.declared.runs.Run.{Run}
 use Rattle.line.specs.declared.runs.RunAt.the-variants.{Is, Refused}
 

@@ -9,26 +9,23 @@ use lib.ListN.{length, getD}
 use Rattle.rules.specs.Rule.{Outcome, run}
 use Rattle.rules.specs.Faults.{Numbered}
 use Rattle.chip.specs.declared.state.State.{State}
-use Rattle.line.specs.Controls.{switch, depthOf, controlsOf}
+use Rattle.setup.specs.Controls.{switch, depthOf, controlsOf}
+use Rattle.setup.specs.declared.setup.Setup.{Setup}
 use Rattle.line.specs.Cells.{Lent, view}
 use Rattle.line.specs.Line.{lineRule, lineOf}
 use Rattle.line.specs.Drawn.{setupOf, said, after, drawn}
 use Rattle.line.specs.Inner.{Sized}
-use Rattle.line.specs.declared.setup.Setup.{Setup}
 
 -- either depth, by the switch
 either-depth : (on : Bool) → (_≡_ {A = ℕ} (cond on 32 16) 16) ⊎ (_≡_ {A = ℕ} (cond on 32 16) 32)
 either-depth true = inr refl
 either-depth false = inl refl
 
--- the fields of control words have their ranges
+-- width and depth of control words have their ranges
 pub controls-sized : (control : List ℕ) → Sized (controlsOf control)
 unfolding controlsOf depthOf
 controls-sized control = record {
-  left-lt = omega arith;
-  top-lt = omega arith;
   width-le = omega arith;
-  height-le = omega arith;
   at-depth = either-depth (switch (getD control 0 0) 4);
 }
 

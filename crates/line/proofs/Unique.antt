@@ -1,17 +1,16 @@
--- No second answer meets the contract of a line or of what the control words say, and no line leaves another output. Assumes nothing.
+-- No second answer meets the contract of a line, and no line leaves another output. Assumes nothing.
 use mathlib.Core.Path.{_≡_, refl, ap, sym, _∙_}
 use denote.Ref.{now}
 use Rattle.rules.specs.Rule.{Outcome, ok, refused}
 use Rattle.rules.specs.Faults.{Numbered}
-use Rattle.rules.specs.Unique.{OneAnswer, OneOutcome}
-use Rattle.rules.proofs.Unique.{by-equation, by-outcome}
+use Rattle.rules.specs.Unique.{OneOutcome}
+use Rattle.rules.proofs.Unique.{by-outcome}
 use Rattle.refusals.proofs.Known.{refusalOf, known}
 use Rattle.chip.specs.declared.state.State.{State}
 use Rattle.line.specs.Drawn.{told}
 use Rattle.line.specs.declared.draw.Answer.{Answer}
 use Rattle.line.specs.declared.draw.Answer.the-variants.{Drawn as WasDrawn, Refused}
 use Rattle.line.specs.declared.draw.Drawn.{Drawn}
-use Rattle.line.proofs.controls.Controls.of.Reads as of
 use Rattle.line.proofs.draw.draw.Reads as draw
 
 -- the answer that says so
@@ -31,6 +30,3 @@ draw-unique =
     ap (λ (state : State). record { state = state; answer = r .answer }) states
     ∙ ap (λ (answer : Answer). record { state = r′ .state; answer = answer }) (sym (back (r .answer)) ∙ ap answer-of says ∙ back (r′ .answer)))
     _ (λ k exit. now (exit .1 .1 .1 .1 .1 .1 .0)) _
-
-pub of-unique : OneAnswer of.Post
-of-unique = by-equation _ _

@@ -1,10 +1,8 @@
 -- The whole rule of a line, by what its checks and passes come to. Assumes nothing.
-use Prim.Native.Nat.{ℕ, _≤_}
+use Prim.Native.Nat.{ℕ}
 use mathlib.Core.Path.{_≡_, sym, ap, _∙_}
-use mathlib.Core.Bool.{Bool, true, false, true≢false, _&&_}
 use mathlib.Core.List.{List}
 use native.Mathlib.Omega.{arith}
-use borrow.Author.Tests.{eqb-true, ltb-false, not-false}
 use lib.ListN.{length}
 use Rattle.rules.specs.Rule.{Rule, Outcome, ok, refused, run, _>>=_}
 use Rattle.rules.specs.Lists.{values}
@@ -13,43 +11,18 @@ use Rattle.rules.specs.Faults.{Numbered}
 use Rattle.rules.specs.Checked.{checked, verdict}
 use Rattle.rules.proofs.Then.{run-ok, run-refused}
 use Rattle.rules.proofs.Each.{each-ok, each-of-values}
-use Rattle.rules.proofs.Checked.{run-checked, clear-verdict}
+use Rattle.rules.proofs.Checked.{run-checked}
 use Rattle.rules.proofs.Value.{run-within-value}
 use Rattle.colour.specs.declared.entry.Entry.{Entry}
-use Rattle.registers.specs.Store.{storeLength}
 use Rattle.pixels.specs.Cells.{pixelView}
 use Rattle.pixels.specs.Colour.{colourOf}
-use Rattle.line.specs.Controls.{screenOf}
+use Rattle.setup.specs.Faults.{lineFaults}
+use Rattle.setup.specs.declared.setup.Setup.{Setup}
+use Rattle.line.specs.Screen.{screenOf}
 use Rattle.line.specs.Cells.{Cell, ofColour, Lent, lentOf, view}
-use Rattle.line.specs.Line.{normalLength, overlayWrong, lengthFaults, lineFaults, startOf, entryAt, entriesOf, inColours, coloursOf, lineRule}
+use Rattle.line.specs.Line.{startOf, entryAt, entriesOf, inColours, coloursOf, lineRule}
 use Rattle.line.specs.Inner.{Drawable, colourBy, colourAt}
-use Rattle.line.specs.declared.setup.Setup.{Setup}
 use Rattle.line.proofs.Pass.{entryOf, has-entry, entries-run}
-
--- of two switches that are not both on, the second is off where the first is on
-both : (first second : Bool) → first && second ≡ false → first ≡ true → second ≡ false
-both true second e on = e
-both false second e on = absurd (true≢false (sym on))
-
--- what a line that passes its first checks has
-pub record Fitted (setup : Setup) : Type 0 where
-  pub store-right : setup .lengths .store ≡ storeLength
-  pub normal-right : setup .lengths .normal ≡ normalLength (setup .controls)
-  pub overlay-right : setup .controls .overlay ≡ true → setup .lengths .overlay ≡ setup .controls .width
-  pub output-right : setup .controls .width ≤ setup .lengths .output
-
--- the lengths of a line that passes them
-pub fitted : (setup : Setup) → verdict (lineFaults setup) ≡ ok tt → Fitted setup
-unfolding lineFaults lengthFaults overlayWrong
-fitted setup passes =
-    let clear = clear-verdict (lineFaults setup) passes in
-    let lengths = clear .1 .1 .1 in
-    record {
-      store-right = eqb-true _ _ (not-false _ (lengths .0));
-      normal-right = eqb-true _ _ (not-false _ (lengths .1 .1 .0));
-      overlay-right = λ on. eqb-true _ _ (not-false _ (both _ _ (lengths .1 .1 .1 .0) on));
-      output-right = ltb-false _ _ (lengths .1 .1 .1 .1 .0);
-    }
 
 module _ (setup : Setup) (lent : Lent) where
   -- refused before anything is read

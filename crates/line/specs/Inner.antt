@@ -22,28 +22,21 @@ use Rattle.windows.specs.declared.ids.LookedUp.the-variants.{Id, Refused as NoI
 use Rattle.pixels.specs.Cells.{PixelCell, pixelView}
 use Rattle.pixels.specs.Colour.{SaidAt, colourOf}
 use Rattle.pixels.specs.declared.Screen.{Screen}
-use Rattle.line.specs.Controls.{screenOf}
+use Rattle.setup.specs.Faults.{normalLength, lineFaults}
+use Rattle.setup.specs.declared.controls.Controls.{Controls}
+use Rattle.setup.specs.declared.setup.Setup.{Setup}
+use Rattle.setup.specs.declared.faults.Fit.the-variants.{Yes, Refused as Unfit}
+use Rattle.setup.specs.declared.faults.Fit.{Fit}
+use Rattle.line.specs.Screen.{screenOf}
 use Rattle.line.specs.Cells.{Cell, Lent, lentOf, view}
-use Rattle.line.specs.Line.{normalLength, lineFaults, startOf, idAt, entryAt, lineRule}
-use Rattle.line.specs.declared.controls.Controls.{Controls}
-use Rattle.line.specs.declared.setup.Setup.{Setup}
-use Rattle.line.specs.declared.faults.Fit.{Fit}
-use Rattle.line.specs.declared.faults.Fit.the-variants.{Yes, Refused as Unfit}
+use Rattle.line.specs.Line.{startOf, idAt, entryAt, lineRule}
 use Rattle.line.specs.declared.runs.RunAt.{RunAt}
 use Rattle.line.specs.declared.runs.RunAt.the-variants.{Is, Refused as NoRun}
 
--- the ranges of the fields
+-- the ranges of width and depth
 pub record Sized (controls : Controls) : Type 0 where
-  pub left-lt : controls .left < 4096
-  pub top-lt : controls .top < 4096
   pub width-le : controls .width ≤ 2048
-  pub height-le : controls .height ≤ 2048
   pub at-depth : (controls .depth ≡ 16) ⊎ (controls .depth ≡ 32)
-
--- whether a line may go on, or a refusal's number and values
-abbrev pub fitTold : Fit → Outcome Numbered (Unit {0})
-fitTold Yes = ok tt
-fitTold (Unfit refusal) = refused (numbered refusal)
 
 -- this holds over a store and a table, whatever the rows hold
 abbrev pub Over : List ℕ → List ℕ → ((Cell → ℕ) → Type 0) → Type 0

@@ -1,4 +1,4 @@
-pub mod Controls
+pub mod Screen
 pub mod Cells
 pub mod Line
 pub mod Drawn

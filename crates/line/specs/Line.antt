@@ -1,66 +1,27 @@
 -- The rule of a line: what it is refused for, each pixel's window entry, and then the colours.
-use Prim.Native.Nat.{ℕ, _+_, _*_, _/_}
-use mathlib.Core.Bool.{Bool, cond, not, _&&_, _||_}
-use mathlib.Core.List.{List, [], _∷_}
-use lib.Dec.{eqb, leb, ltb}
+use Prim.Native.Nat.{ℕ}
+use mathlib.Core.Bool.{cond}
+use mathlib.Core.List.{List}
 use Rattle.rules.specs.Rule.{Rule, done, stop, get, _>>=_, within, Outcome, run}
 use Rattle.rules.specs.Each.{each, eachOf}
-use Rattle.rules.specs.Faults.{Numbered, Fault}
+use Rattle.rules.specs.Faults.{Numbered}
 use Rattle.rules.specs.Checked.{checked}
-use Rattle.refusals.specs.Refusal.{numbered, fault}
-use Rattle.refusals.specs.declared.Refusal.the-variants.{StoreLength, TableLength, NormalLength, OverlayLength, OutputLength, BelowActive, UndefinedEntry, AboveTotal, BadState}
+use Rattle.refusals.specs.Refusal.{numbered}
+use Rattle.refusals.specs.declared.Refusal.the-variants.{UndefinedEntry}
 use Rattle.colour.specs.Entry.{decoded}
 use Rattle.colour.specs.declared.entry.Entry.{Entry}
 use Rattle.colour.specs.declared.entry.Decoded.{Decoded}
 use Rattle.colour.specs.declared.entry.Decoded.the-variants.{Defined, Undefined}
-use Rattle.registers.specs.Store.{storeLength}
 use Rattle.windows.specs.Table.{TableCell}
 use Rattle.windows.specs.Frame.{lineTableOf}
 use Rattle.windows.specs.Ids.{idOf}
 use Rattle.pixels.specs.Cells.{PixelCell}
 use Rattle.pixels.specs.Colour.{colourOf}
-use Rattle.line.specs.Controls.{screenOf}
+use Rattle.setup.specs.Faults.{lineFaults}
+use Rattle.setup.specs.declared.controls.Controls.{Controls}
+use Rattle.setup.specs.declared.setup.Setup.{Setup}
+use Rattle.line.specs.Screen.{screenOf}
 use Rattle.line.specs.Cells.{Cell, ofTable, windowEntry, ofColour, Lent, view}
-use Rattle.line.specs.declared.controls.Controls.{Controls}
-use Rattle.line.specs.declared.setup.Setup.{Setup}
-
--- ---- what a line is refused for before anything is read
-
--- the picture is wider or higher than what the total leaves behind its origin
-unfoldable pub aboveTotal : Controls → Bool
-aboveTotal controls =
-    ltb (controls .columns) (controls .left + controls .width)
-    || ltb (controls .lines) (controls .top + controls .height)
-
--- the bytes of a normal row
-abbrev pub normalLength : Controls → ℕ
-normalLength controls = controls .width * (controls .depth / 8)
-
--- the table, looked at only where window IDs are on, has more than 65,536 bytes
-unfoldable pub tableTooLong : Setup → Bool
-tableTooLong setup = setup .controls .ids && ltb 65536 (setup .lengths .table)
-
--- the overlay row, looked at only where overlay is on, has another length than the active width
-unfoldable pub overlayWrong : Setup → Bool
-overlayWrong setup = setup .controls .overlay && not (eqb (setup .lengths .overlay) (setup .controls .width))
-
--- 5, at the lowest place
-unfoldable pub lengthFaults : Setup → List Fault
-lengthFaults setup =
-    fault StoreLength (not (eqb (setup .lengths .store) storeLength))
-    ∷ fault TableLength (tableTooLong setup)
-    ∷ fault NormalLength (not (eqb (setup .lengths .normal) (normalLength (setup .controls))))
-    ∷ fault OverlayLength (overlayWrong setup)
-    ∷ fault OutputLength (ltb (setup .lengths .output) (setup .controls .width))
-    ∷ []
-
--- 11, 10, 6, 5
-unfoldable pub lineFaults : Setup → List Fault
-lineFaults setup =
-    fault BadState (not (setup .good))
-    ∷ fault AboveTotal (aboveTotal (setup .controls))
-    ∷ fault (BelowActive (setup .y)) (leb (setup .controls .height) (setup .y))
-    ∷ lengthFaults setup
 
 -- ---- the first pass: window entries
 

@@ -3,13 +3,15 @@ ghost use mathlib.Core.Path.{_≡_};
 ghost use lib.ListN.{length};
 ghost use Rattle.line.specs.Cells.{lentOf};
 ghost use Rattle.line.specs.Drawn.{told, drawn};
-ghost use Rattle.line.specs.Inner.{Sized, StartTold, CheckedTold};
-use crate::controls::Controls;
-use crate::faults::Fit;
-use crate::setup::Lengths;
-use crate::setup::Setup;
+ghost use Rattle.line.specs.Inner.{StartTold, CheckedTold};
+use crate::passes::check_runs;
+use crate::passes::draw_runs;
 use chip::state::State;
 use refusals::Refusal;
+use setup::controls::Controls;
+use setup::faults::Fit;
+use setup::setup::Lengths;
+use setup::setup::Setup;
 use windows::frame::LineTable;
 
 // What a line answers.
@@ -24,38 +26,34 @@ pub struct Drawn {
     pub answer: Answer,
 }
 
-impl Controls {
-    // Where the line table of line y starts; with window IDs off there is none.
-    fn start(self, table: &[u8], y: u32) -> LineTable
-        ensures { λ r. ⌜ StartTold self (now (table .entry)) y r ⌝ }
-    {
-        if self.ids {
-            return windows::frame::line_table(table, y);
-        }
-        LineTable::Starts(0)
+// Where the line table of line y starts; with window IDs off there is none.
+fn start(controls: Controls, table: &[u8], y: u32) -> LineTable
+    ensures { λ r. ⌜ StartTold controls (now (table .entry)) y r ⌝ }
+{
+    if controls.ids {
+        return windows::frame::line_table(table, y);
     }
+    LineTable::Starts(0)
 }
 
-impl Setup {
-    // Every check of a line, pixel by pixel too: where its line table starts, or the refusal.
-    fn checked(self, store: &[u32], table: &[u8]) -> LineTable
-        requires { ⌜ Sized (self .controls) × (length (now store) ≡ self .lengths .store) × (length (now table) ≡ self .lengths .table) ⌝ }
-        ensures { λ r. ⌜ CheckedTold self (now (store .entry)) (now (table .entry)) r ⌝ }
-    {
-        let fit = self.fit();
-        if let Fit::Refused(refusal) = fit {
-            return LineTable::Refused(refusal);
-        }
-        let controls = self.controls;
-        let found = controls.start(table, self.y);
-        let LineTable::Starts(start) = found else {
-            return found;
-        };
-        let checked = controls.check_runs(store, table, start);
-        match checked {
-            Fit::Yes => LineTable::Starts(start),
-            Fit::Refused(refusal) => LineTable::Refused(refusal),
-        }
+// Every check of a line, pixel by pixel too: where its line table starts, or the refusal.
+fn checked(setup: Setup, store: &[u32], table: &[u8]) -> LineTable
+    requires { ⌜ (length (now store) ≡ setup .lengths .store) × (length (now table) ≡ setup .lengths .table) ⌝ }
+    ensures { λ r. ⌜ CheckedTold setup (now (store .entry)) (now (table .entry)) r ⌝ }
+{
+    let fit = setup.fit();
+    if let Fit::Refused(refusal) = fit {
+        return LineTable::Refused(refusal);
+    }
+    let controls = setup.controls;
+    let found = start(controls, table, setup.y);
+    let LineTable::Starts(start) = found else {
+        return found;
+    };
+    let checked = check_runs(controls, store, table, start);
+    match checked {
+        Fit::Yes => LineTable::Starts(start),
+        Fit::Refused(refusal) => LineTable::Refused(refusal),
     }
 }
 
@@ -84,7 +82,7 @@ pub fn draw(
             output: out.len(),
         },
     };
-    let checked = setup.checked(store, table);
+    let checked = checked(setup, store, table);
     match checked {
         LineTable::Refused(refusal) => Drawn {
             state,
@@ -92,7 +90,7 @@ pub fn draw(
         },
         LineTable::Starts(start) => {
             let controls = setup.controls;
-            controls.draw_runs(y, store, table, start, normal, overlay, out);
+            draw_runs(controls, y, store, table, start, normal, overlay, out);
             Drawn {
                 state,
                 answer: Answer::Drawn,

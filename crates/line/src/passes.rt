@@ -2,68 +2,84 @@
 ghost use mathlib.Core.Path.{_≡_};
 ghost use lib.ListN.{length};
 ghost use Rattle.registers.specs.Store.{storeLength};
+ghost use Rattle.line.specs.Screen.{screenOf};
 ghost use Rattle.line.specs.Cells.{lentOf};
 ghost use Rattle.line.specs.Inner.{Sized, Entries, EntriesTold, Enough, coloured};
-use crate::controls::Controls;
-use crate::faults::Fit;
 use crate::runs::RunAt;
+use crate::runs::run_at;
+use pixels::Screen;
+use setup::controls::Controls;
+use setup::faults::Fit;
 
-impl Controls {
-    // The first pass: whether every pixel has a defined window entry.
-    pub(crate) fn check_runs(self, store: &[u32], table: &[u8], start: usize) -> Fit
-        requires { ⌜ length (now store) ≡ storeLength ⌝ }
-        ensures { λ r. ⌜ EntriesTold self (now (store .entry)) (now (table .entry)) start r ⌝ }
-    {
-        let mut x = 0;
-        let mut from = 0;
-        while x < self.width {
-            let run = self.run_at(store, table, start, from, x);
-            match run {
-                RunAt::Refused(refusal) => return Fit::Refused(refusal),
-                RunAt::Is(run) => {
-                    x = run.end;
-                    from = run.next;
-                }
+// The first pass: whether every pixel has a defined window entry.
+pub(crate) fn check_runs(controls: Controls, store: &[u32], table: &[u8], start: usize) -> Fit
+    requires { ⌜ length (now store) ≡ storeLength ⌝ }
+    ensures { λ r. ⌜ EntriesTold controls (now (store .entry)) (now (table .entry)) start r ⌝ }
+{
+    let mut x = 0;
+    let mut from = 0;
+    while x < controls.width {
+        let run = run_at(controls, store, table, start, from, x);
+        match run {
+            RunAt::Refused(refusal) => return Fit::Refused(refusal),
+            RunAt::Is(run) => {
+                x = run.end;
+                from = run.next;
             }
         }
-        Fit::Yes
     }
+    Fit::Yes
+}
 
-    // The second pass: every run is lent the rest of the output, from where it begins.
-    pub(crate) fn draw_runs(
-        self,
-        y: u32,
-        store: &[u32],
-        table: &[u8],
-        start: usize,
-        normal: &[u8],
-        overlay: &[u8],
-        out: &mut [u32],
-    )
-        requires { ⌜ Sized self × Enough self (lentOf (now store) (now table) (now normal) (now overlay)) (now out) × Entries self (now store) (now table) start ⌝ }
-        ensures { λ _. ⌜ now (out .exit) ≡ coloured self y (lentOf (now (store .entry)) (now (table .entry)) (now (normal .entry)) (now (overlay .entry))) start (now (out .entry)) ⌝ }
-    {
-        let screen = self.screen(y);
-        let mut x = 0;
-        let mut from = 0;
-        while x < self.width {
-            let RunAt::Is(run) = self.run_at(store, table, start, from, x) else {
-                // Not taken: the first pass found a run at every pixel.
-                return;
-            };
-            let first = x as usize;
-            let count = (run.end - x) as usize;
-            screen.fill(
-                run.entry,
-                store,
-                normal,
-                overlay,
-                first,
-                count,
-                &mut out[first..],
-            );
-            x = run.end;
-            from = run.next;
-        }
+// What the control words say of every pixel of line y.
+fn screen(controls: Controls, y: u32) -> Screen
+    ensures { λ r. ⌜ r ≡ screenOf controls y ⌝ }
+{
+    Screen {
+        overlay: controls.overlay,
+        cursor: controls.cursor,
+        crosshair: controls.crosshair,
+        depth: controls.depth,
+        cx: controls.cx as usize,
+        cy: controls.cy as usize,
+        y: y as usize,
+    }
+}
+
+// The second pass: every run is lent the rest of the output, from where it begins.
+pub(crate) fn draw_runs(
+    controls: Controls,
+    y: u32,
+    store: &[u32],
+    table: &[u8],
+    start: usize,
+    normal: &[u8],
+    overlay: &[u8],
+    out: &mut [u32],
+)
+    requires { ⌜ Sized controls × Enough controls (lentOf (now store) (now table) (now normal) (now overlay)) (now out) × Entries controls (now store) (now table) start ⌝ }
+    ensures { λ _. ⌜ now (out .exit) ≡ coloured controls y (lentOf (now (store .entry)) (now (table .entry)) (now (normal .entry)) (now (overlay .entry))) start (now (out .entry)) ⌝ }
+{
+    let screen = screen(controls, y);
+    let mut x = 0;
+    let mut from = 0;
+    while x < controls.width {
+        let RunAt::Is(run) = run_at(controls, store, table, start, from, x) else {
+            // Not taken: the first pass found a run at every pixel.
+            return;
+        };
+        let first = x as usize;
+        let count = (run.end - x) as usize;
+        screen.fill(
+            run.entry,
+            store,
+            normal,
+            overlay,
+            first,
+            count,
+            &mut out[first..],
+        );
+        x = run.end;
+        from = run.next;
     }
 }

@@ -4,10 +4,10 @@ ghost use mathlib.Core.Path.{_≡_};
 ghost use lib.ListN.{length};
 ghost use Rattle.registers.specs.Store.{storeLength};
 ghost use Rattle.line.specs.Inner.{PassedAt, Served, RunTold};
-use crate::controls::Controls;
 use colour::entry::Decoded;
 use colour::entry::Entry;
 use refusals::Refusal;
+use setup::controls::Controls;
 use windows::ids::Found;
 use windows::ids::LookedUp;
 
@@ -24,56 +24,54 @@ pub enum RunAt {
     Refused(Refusal),
 }
 
-impl Controls {
-    // The ID of pixel x with the pixels that have it too; with window IDs off all pixels are window 0's.
-    fn id_at(self, table: &[u8], start: usize, from: usize, x: u32) -> LookedUp
-        requires { ⌜ PassedAt self (now table) start from x × (x < self .width) ⌝ }
-        ensures { λ r. ⌜ Served self (now (table .entry)) start x r ⌝ }
-    {
-        if self.ids {
-            return windows::ids::look_up(table, start, from, x);
-        }
-        LookedUp::Id(Found {
-            id: 0,
-            last: self.width - 1,
-            next: 0,
-        })
+// The ID of pixel x with the pixels that have it too; with window IDs off all pixels are window 0's.
+fn id_at(controls: Controls, table: &[u8], start: usize, from: usize, x: u32) -> LookedUp
+    requires { ⌜ PassedAt controls (now table) start from x × (x < controls .width) ⌝ }
+    ensures { λ r. ⌜ Served controls (now (table .entry)) start x r ⌝ }
+{
+    if controls.ids {
+        return windows::ids::look_up(table, start, from, x);
     }
+    LookedUp::Id(Found {
+        id: 0,
+        last: controls.width - 1,
+        next: 0,
+    })
+}
 
-    // The run that starts at pixel x.
-    pub(crate) fn run_at(
-        self,
-        store: &[u32],
-        table: &[u8],
-        start: usize,
-        from: usize,
-        x: u32,
-    ) -> RunAt
-        requires { ⌜ PassedAt self (now table) start from x × (x < self .width) × (length (now store) ≡ storeLength) ⌝ }
-        ensures { λ r. ⌜ RunTold self (now (store .entry)) (now (table .entry)) start x r ⌝ }
-    {
-        let looked = self.id_at(table, start, from, x);
-        let LookedUp::Id(found) = looked else {
-            // The answer holds the refusal, so it is taken apart again. It is no ID here.
-            return match looked {
-                LookedUp::Id(_) => RunAt::Refused(Refusal::NoLineEntry(x)),
-                LookedUp::Refused(refusal) => RunAt::Refused(refusal),
-            };
+// The run that starts at pixel x.
+pub(crate) fn run_at(
+    controls: Controls,
+    store: &[u32],
+    table: &[u8],
+    start: usize,
+    from: usize,
+    x: u32,
+) -> RunAt
+    requires { ⌜ PassedAt controls (now table) start from x × (x < controls .width) × (length (now store) ≡ storeLength) ⌝ }
+    ensures { λ r. ⌜ RunTold controls (now (store .entry)) (now (table .entry)) start x r ⌝ }
+{
+    let looked = id_at(controls, table, start, from, x);
+    let LookedUp::Id(found) = looked else {
+        // The answer holds the refusal, so it is taken apart again. It is no ID here.
+        return match looked {
+            LookedUp::Id(_) => RunAt::Refused(Refusal::NoLineEntry(x)),
+            LookedUp::Refused(refusal) => RunAt::Refused(refusal),
         };
-        let id = found.id as usize;
-        let decoded = colour::entry::decode(store[id], self.depth);
-        let Decoded::Defined(entry) = decoded else {
-            return RunAt::Refused(Refusal::UndefinedEntry(x));
-        };
-        let end = if found.last < self.width {
-            found.last + 1
-        } else {
-            self.width
-        };
-        RunAt::Is(Run {
-            entry,
-            end,
-            next: found.next,
-        })
-    }
+    };
+    let id = found.id as usize;
+    let decoded = colour::entry::decode(store[id], controls.depth);
+    let Decoded::Defined(entry) = decoded else {
+        return RunAt::Refused(Refusal::UndefinedEntry(x));
+    };
+    let end = if found.last < controls.width {
+        found.last + 1
+    } else {
+        controls.width
+    };
+    RunAt::Is(Run {
+        entry,
+        end,
+        next: found.next,
+    })
 }

@@ -14,7 +14,7 @@ use Rattle.chip.specs.declared.dots.Report.{Report}
 use Rattle.records.specs.declared.record.Record.the-variants.{Write, Dots, Line}
 use Rattle.listing.specs.Text.{said, text}
 use Rattle.listing.specs.Text as entry
-use Rattle.line.specs.Controls.{controlsOf}
+use Rattle.setup.specs.Controls.{controlsOf}
 use Rattle.line.specs.Cells.{lentOf}
 use Rattle.line.specs.Drawn.{drawn}
 use Rattle.session.specs.Held.{Held}

@@ -10,7 +10,7 @@ use Rattle.records.specs.Found.{found}
 use Rattle.records.specs.declared.record.Record.the-variants.{Line}
 use Rattle.records.specs.declared.record.Found.the-variants.{Is}
 use Rattle.listing.specs.Text.{ascii, ended, spaced, pixels, text}
-use Rattle.line.specs.Controls.{controlsOf}
+use Rattle.setup.specs.Controls.{controlsOf}
 use Rattle.line.specs.Cells.{Lent, lentOf}
 use Rattle.line.specs.Line.{lineOf}
 use Rattle.line.specs.Drawn.{setupOf, drawn}

@@ -25,12 +25,13 @@ use Rattle.records.specs.declared.record.Found.the-variants.{Is, More, Refused}
 use Rattle.records.proofs.Whole.{body-long}
 use Rattle.records.proofs.Accepted.{found-accepted}
 use Rattle.records.proofs.Limits.{table-fits, normal-fits, overlay-fits}
+use Rattle.setup.specs.Faults.{lineFaults}
+use Rattle.setup.specs.declared.setup.Setup.{Setup}
+use Rattle.setup.proofs.Fitted.{fitted}
 use Rattle.line.specs.Cells.{Lent, lentOf}
-use Rattle.line.specs.Line.{lineFaults, lineOf}
+use Rattle.line.specs.Line.{lineOf}
 use Rattle.line.specs.Drawn.{setupOf, drawn}
 use Rattle.line.specs.Drawn as line
-use Rattle.line.specs.declared.setup.Setup.{Setup}
-use Rattle.line.proofs.Whole.{fitted}
 use Rattle.session.specs.Held.{Held, empty, withChip}
 use Rattle.session.specs.Record.{acted, contextOf, stepped}
 use Rattle.session.specs.Step.{outputRoom}

@@ -14,9 +14,10 @@ use Rattle.refusals.specs.declared.Refusal.the-variants.{NoRegister, ReadOnly, 
 use Rattle.colour.specs.declared.entry.Entry.{Entry}
 use Rattle.windows.specs.Table.{TableCell, yend, lineTable, xend, windowId}
 use Rattle.pixels.specs.Cells.{PixelCell}
+use Rattle.setup.specs.Faults.{lineFaults}
+use Rattle.setup.specs.declared.setup.Setup.{Setup}
 use Rattle.line.specs.Cells.{ofTable, windowEntry, ofColour, Lent, view}
-use Rattle.line.specs.Line.{lineFaults, entriesOf, lineOf}
-use Rattle.line.specs.declared.setup.Setup.{Setup}
+use Rattle.line.specs.Line.{entriesOf, lineOf}
 use Rattle.rests.specs.TableList.{WindowListed, MetListed}
 use Rattle.rests.specs.Listed.{PixelListed, NoFrameListed, NoLineListed, UpToFault, ListedFor, Listed}
 use Rattle.rests.proofs.Before.{refused-unread}

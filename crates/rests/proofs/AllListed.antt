@@ -14,10 +14,11 @@ use Rattle.windows.specs.Table.{yend, lineTable, xend, windowId}
 use Rattle.windows.specs.Ids.{entryByte}
 use Rattle.pixels.specs.Cells.{PixelCell}
 use Rattle.pixels.specs.Colour.{colourOf}
-use Rattle.line.specs.Controls.{screenOf}
+use Rattle.setup.specs.Faults.{lineFaults}
+use Rattle.setup.specs.declared.setup.Setup.{Setup}
+use Rattle.line.specs.Screen.{screenOf}
 use Rattle.line.specs.Cells.{Cell, ofTable, windowEntry, ofColour, Lent, view}
-use Rattle.line.specs.Line.{lineFaults, entriesOf, inColours, coloursOf, lineRule, lineOf}
-use Rattle.line.specs.declared.setup.Setup.{Setup}
+use Rattle.line.specs.Line.{entriesOf, inColours, coloursOf, lineRule, lineOf}
 use Rattle.rests.specs.Listed.{PixelListed, DrawnListed, NoFrameListed, NoLineListed, WholeListed, RefusedListed, ListedFor, Listed}
 use Rattle.rests.proofs.Before.{refused-unread, reads-passes}
 use Rattle.rests.proofs.Parts.{Among, both, Either, at-first, at-second, either, by-first, by-second, either-read, within-read, AllAnswer, each-read, each-answers}

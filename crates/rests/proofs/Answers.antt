@@ -12,10 +12,11 @@ use Rattle.refusals.specs.Refusal.{numbered, fault}
 use Rattle.refusals.specs.declared.Refusal.the-variants.{BadState}
 use Rattle.chip.specs.State.{goodState}
 use Rattle.chip.specs.declared.state.State.{State}
+use Rattle.setup.specs.Faults.{lengthFaults, lineFaults}
+use Rattle.setup.specs.declared.setup.Setup.{Setup}
 use Rattle.line.specs.Cells.{Lent}
-use Rattle.line.specs.Line.{lengthFaults, lineFaults, lineOf}
+use Rattle.line.specs.Line.{lineOf}
 use Rattle.line.specs.Drawn.{setupOf, said, after, drawn}
-use Rattle.line.specs.declared.setup.Setup.{Setup}
 use Rattle.rests.specs.Reasons.{Reason, at-once, no-frame-entry, no-line-entry, undefined-entry}
 use Rattle.rests.proofs.Reasons.{refused-for, for-refused}
 

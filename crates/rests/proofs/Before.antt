@@ -18,11 +18,12 @@ use Rattle.windows.specs.Table.{TableCell}
 use Rattle.windows.specs.Frame.{lineTableOf}
 use Rattle.windows.specs.Ids.{idOf}
 use Rattle.pixels.specs.Colour.{colourOf}
-use Rattle.line.specs.Controls.{screenOf}
+use Rattle.setup.specs.Faults.{lineFaults}
+use Rattle.setup.specs.declared.controls.Controls.{Controls}
+use Rattle.setup.specs.declared.setup.Setup.{Setup}
+use Rattle.line.specs.Screen.{screenOf}
 use Rattle.line.specs.Cells.{Cell, ofTable, ofColour, Lent, view}
-use Rattle.line.specs.Line.{lineFaults, inTable, startOf, idAt, definedAt, entryAt, entriesOf, coloursOf, lineRule, lineOf}
-use Rattle.line.specs.declared.controls.Controls.{Controls}
-use Rattle.line.specs.declared.setup.Setup.{Setup}
+use Rattle.line.specs.Line.{inTable, startOf, idAt, definedAt, entryAt, entriesOf, coloursOf, lineRule, lineOf}
 use Rattle.rests.specs.Listed.{NoColour}
 
 -- ---- the first pass asks for no other cell

@@ -4,10 +4,10 @@ use mathlib.Core.Path.{_≡_, subst}
 use mathlib.Core.List.{List, List·Memᴰ}
 use lib.ListN.{length}
 use Rattle.chip.specs.declared.state.State.{State}
+use Rattle.setup.specs.declared.setup.Setup.{Setup}
 use Rattle.line.specs.Cells.{Cell, Lent}
 use Rattle.line.specs.Line.{lineOf}
 use Rattle.line.specs.Drawn.{setupOf, drawn}
-use Rattle.line.specs.declared.setup.Setup.{Setup}
 use Rattle.rests.specs.Calls.{SameLengths, AgreeOnReads}
 use Rattle.rests.specs.Listed.{Listed, AgreeOnList}
 use Rattle.rests.proofs.Demand.{line-rests, line-reads, drawn-rests}

@@ -7,10 +7,10 @@ use Rattle.rules.specs.Rule.{reads}
 use Rattle.rules.proofs.Rests.{same-run, same-reads}
 use Rattle.chip.specs.State.{goodState}
 use Rattle.chip.specs.declared.state.State.{State}
+use Rattle.setup.specs.declared.setup.Setup.{Setup}
 use Rattle.line.specs.Cells.{Lent, view}
 use Rattle.line.specs.Line.{lineRule, lineOf}
 use Rattle.line.specs.Drawn.{setupOf, drawn, said}
-use Rattle.line.specs.declared.setup.Setup.{Setup}
 use Rattle.rests.specs.Calls.{SameLengths, AgreeOnReads}
 
 module _ (setup : Setup) (lent other : Lent) (agree : AgreeOnReads setup lent other) where

@@ -12,9 +12,9 @@ use Rattle.refusals.specs.Refusal.{numbered}
 use Rattle.refusals.specs.declared.Refusal.{Refusal}
 use Rattle.refusals.specs.declared.Refusal.the-variants.{NoRegister, ReadOnly, StrayBits, QueueFull, StoreLength, TableLength, NormalLength, OverlayLength, OutputLength, BelowActive, NoFrameEntry, NoLineEntry, UndefinedEntry, AboveTotal, BadState, WrongRecord, FileEnds, TooMuch}
 use Rattle.refusals.proofs.Known.{refusalOf, known}
+use Rattle.setup.specs.Faults.{lengthFaults, lineFaults}
+use Rattle.setup.specs.declared.setup.Setup.{Setup}
 use Rattle.line.specs.Cells.{Cell, Lent}
-use Rattle.line.specs.Line.{lengthFaults, lineFaults}
-use Rattle.line.specs.declared.setup.Setup.{Setup}
 use Rattle.rests.specs.Listed.{UpToFault, RefusedListed}
 
 -- a refusal that lists nothing

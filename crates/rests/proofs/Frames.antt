@@ -12,9 +12,9 @@ use Rattle.refusals.specs.declared.Refusal.the-variants.{NoFrameEntry}
 use Rattle.windows.specs.Table.{TableCell, yend, lineTable, tableView}
 use Rattle.windows.specs.Frame.{frameEntries, lineTableOf}
 use Rattle.windows.specs.Ids.{idOf}
+use Rattle.setup.specs.declared.setup.Setup.{Setup}
 use Rattle.line.specs.Cells.{Cell, ofTable, Lent, view}
 use Rattle.line.specs.Line.{inTable, startOf, idAt}
-use Rattle.line.specs.declared.setup.Setup.{Setup}
 use Rattle.rests.specs.TableList.{FrameEntry, FrameListed, StartsAt, MetListed}
 use Rattle.rests.specs.Listed.{NoFrameListed}
 use Rattle.rests.proofs.Parts.{Among, Becomes, read-within, within-read}

@@ -16,9 +16,9 @@ use Rattle.registers.specs.Store.{stored}
 use Rattle.registers.specs.declared.Block.the-variants.{WindowEntries, ColourMap, GammaMap, CursorGlyph, CursorColours}
 use Rattle.windows.specs.Table.{TableCell}
 use Rattle.pixels.specs.Cells.{channelIn, PixelCell, glyph, cursorColour, overlayByte, sample, mapEntry, gamma, pixelWord}
+use Rattle.setup.specs.declared.setup.Setup.{Setup}
 use Rattle.line.specs.Cells.{ofTable, windowEntry, ofColour, Lent, lentOf, view}
 use Rattle.line.specs.Line.{lineOf}
-use Rattle.line.specs.declared.setup.Setup.{Setup}
 use Rattle.rests.specs.Calls.{AgreeOnReads}
 use Rattle.rests.specs.Listed.{PixelListed, Listed, AgreeOnList}
 use Rattle.rests.specs.Hidden.{withStore, withTable, withNormal, withOverlay, SameChosen, SameHalves, SameUncovered, SameSeen, SameOverlaid, SameFields, SameCounting, SameKept}

@@ -11,8 +11,8 @@ use Rattle.windows.specs.Table.{yend, lineTable, xend, windowId, tableView}
 use Rattle.windows.specs.Ids.{lineEntries, entryByte}
 use Rattle.windows.proofs.Search.{Reached, found-tells, reached-monotone}
 use Rattle.windows.proofs.Answers.{endOf}
+use Rattle.setup.specs.declared.setup.Setup.{Setup}
 use Rattle.line.specs.Cells.{Cell, ofTable, windowEntry, ofColour, Lent, view}
-use Rattle.line.specs.declared.setup.Setup.{Setup}
 use Rattle.rests.specs.TableList.{StartsAt, LineEntry, HasId, LineListed, IdListed, WindowListed, MetListed}
 use Rattle.rests.specs.Listed.{NoLineListed}
 use Rattle.rests.proofs.Parts.{Among}

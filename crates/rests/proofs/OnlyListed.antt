@@ -16,10 +16,11 @@ use Rattle.refusals.specs.declared.Refusal.the-variants.{NoFrameEntry, NoLineEn
 use Rattle.colour.specs.declared.entry.Entry.{Entry}
 use Rattle.pixels.specs.Cells.{PixelCell}
 use Rattle.pixels.specs.Colour.{colourOf}
-use Rattle.line.specs.Controls.{screenOf}
+use Rattle.setup.specs.Faults.{lineFaults}
+use Rattle.setup.specs.declared.setup.Setup.{Setup}
+use Rattle.line.specs.Screen.{screenOf}
 use Rattle.line.specs.Cells.{Cell, ofTable, windowEntry, ofColour, Lent, view}
-use Rattle.line.specs.Line.{lineFaults, entriesOf, inColours, coloursOf, lineRule, lineOf}
-use Rattle.line.specs.declared.setup.Setup.{Setup}
+use Rattle.line.specs.Line.{entriesOf, inColours, coloursOf, lineRule, lineOf}
 use Rattle.rests.specs.TableList.{MetListed}
 use Rattle.rests.specs.Listed.{DrawnListed, NoLineListed, RefusedListed, ListedFor, Listed}
 use Rattle.rests.proofs.Before.{never-colours, unread, passes, reads-passes}

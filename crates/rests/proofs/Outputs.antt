@@ -9,11 +9,12 @@ use Rattle.rules.specs.Faults.{Numbered}
 use Rattle.rules.specs.Checked.{verdict}
 use Rattle.rules.proofs.Cases.{impossible}
 use Rattle.chip.specs.declared.state.State.{State}
-use Rattle.line.specs.Controls.{controlsOf}
+use Rattle.setup.specs.Controls.{controlsOf}
+use Rattle.setup.specs.Faults.{lineFaults}
+use Rattle.setup.specs.declared.setup.Setup.{Setup}
 use Rattle.line.specs.Cells.{Lent, view}
-use Rattle.line.specs.Line.{lineFaults, entriesOf, coloursOf, lineOf}
+use Rattle.line.specs.Line.{entriesOf, coloursOf, lineOf}
 use Rattle.line.specs.Drawn.{setupOf, drawn, said, after}
-use Rattle.line.specs.declared.setup.Setup.{Setup}
 use Rattle.rests.specs.Calls.{SameLengths, AgreeOnReads}
 use Rattle.rests.proofs.Demand.{outcome-rests}
 use Rattle.rests.proofs.Before.{refused-unread, passes}

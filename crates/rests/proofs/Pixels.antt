@@ -16,9 +16,9 @@ use Rattle.colour.specs.declared.entry.Entry.{Entry}
 use Rattle.windows.specs.Table.{TableCell, tableView}
 use Rattle.windows.specs.Ids.{lineEntries, lineEntryFrom, idOf}
 use Rattle.windows.proofs.Answers.{endOf, idCell}
+use Rattle.setup.specs.declared.setup.Setup.{Setup}
 use Rattle.line.specs.Cells.{Cell, ofTable, windowEntry, Lent, view}
 use Rattle.line.specs.Line.{definedAt, entryAt}
-use Rattle.line.specs.declared.setup.Setup.{Setup}
 use Rattle.rests.specs.TableList.{LineEntry}
 use Rattle.rests.proofs.Parts.{Among, Becomes, both, Either, at-first, at-second, either, Read, by-first, by-second, read-either, either-read, read-within, within-read}
 use Rattle.rests.proofs.LookUps.{LookedUpCell, an-end, its-cell, look-up-read, read-end, read-cell, refusal-named, refused-look-up-read, read-any-end}

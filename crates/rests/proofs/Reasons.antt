@@ -22,9 +22,10 @@ use Rattle.windows.specs.Frame.{frameEntries, lineTableOf}
 use Rattle.windows.specs.Ids.{lineEntries}
 use Rattle.windows.proofs.Search.{misses}
 use Rattle.windows.proofs.Answers.{table-of-none, table-unanswered, endOf, id-of-none, id-unanswered}
+use Rattle.setup.specs.Faults.{lineFaults}
+use Rattle.setup.specs.declared.setup.Setup.{Setup}
 use Rattle.line.specs.Cells.{Lent, view}
-use Rattle.line.specs.Line.{lineFaults, definedAt, entryAt, entriesOf, coloursOf, lineOf}
-use Rattle.line.specs.declared.setup.Setup.{Setup}
+use Rattle.line.specs.Line.{definedAt, entryAt, entriesOf, coloursOf, lineOf}
 use Rattle.rests.specs.Reasons.{NoFrameReaches, NoEntryReaches, UndefinedAt, ComesTo, Reason, at-once, no-frame-entry, no-line-entry, undefined-entry}
 use Rattle.rests.proofs.Before.{never-colours, refused-unread, passes}
 use Rattle.rests.proofs.Parts.{both, Either, at-first, at-second, either, AllAnswer}

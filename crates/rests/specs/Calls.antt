@@ -2,9 +2,9 @@
 use mathlib.Core.Path.{_≡_}
 use lib.ListN.{length}
 use Rattle.rules.specs.Rule.{reads, Agree}
+use Rattle.setup.specs.declared.setup.Setup.{Setup}
 use Rattle.line.specs.Cells.{Lent, view}
 use Rattle.line.specs.Line.{lineRule}
-use Rattle.line.specs.declared.setup.Setup.{Setup}
 
 -- the lengths of what is lent are the same
 pub record SameLengths (lent other : Lent) : Type 0 where

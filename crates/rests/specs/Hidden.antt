@@ -16,9 +16,9 @@ use Rattle.windows.specs.Table.{TableCell, tableView}
 use Rattle.pixels.specs.Cells.{Channel, PixelCell, glyph, cursorColour, mapEntry, gamma, pixelWord, pixelView}
 use Rattle.pixels.specs.Colour.{overlayCounts}
 use Rattle.pixels.specs.declared.Screen.{Screen}
-use Rattle.line.specs.Controls.{screenOf}
+use Rattle.setup.specs.declared.setup.Setup.{Setup}
+use Rattle.line.specs.Screen.{screenOf}
 use Rattle.line.specs.Cells.{Lent, lentOf}
-use Rattle.line.specs.declared.setup.Setup.{Setup}
 use Rattle.rests.specs.TableList.{HasEntry, WindowListed}
 use Rattle.rests.specs.ColourList.{cursorHere, overlayHere}
 use Rattle.rests.specs.Listed.{PixelListed}

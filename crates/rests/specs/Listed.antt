@@ -13,10 +13,10 @@ use Rattle.windows.specs.Table.{yend, lineTable, xend, windowId}
 use Rattle.windows.specs.Frame.{frameEntries}
 use Rattle.windows.specs.Ids.{lineEntries, entryByte}
 use Rattle.pixels.specs.Cells.{PixelCell}
-use Rattle.line.specs.Controls.{screenOf}
+use Rattle.setup.specs.declared.setup.Setup.{Setup}
+use Rattle.line.specs.Screen.{screenOf}
 use Rattle.line.specs.Cells.{Cell, ofTable, windowEntry, ofColour, Lent, view}
 use Rattle.line.specs.Line.{lineOf}
-use Rattle.line.specs.declared.setup.Setup.{Setup}
 use Rattle.rests.specs.TableList.{StartsAt, HasEntry, MetListed}
 use Rattle.rests.specs.ColourList.{ColourListed}
 

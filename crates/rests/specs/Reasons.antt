@@ -11,9 +11,9 @@ use Rattle.colour.specs.declared.entry.Decoded.the-variants.{Undefined}
 use Rattle.windows.specs.Table.{yend, xend, tableView}
 use Rattle.windows.specs.Frame.{frameEntries}
 use Rattle.windows.specs.Ids.{lineEntries, entryByte}
+use Rattle.setup.specs.Faults.{lineFaults}
+use Rattle.setup.specs.declared.setup.Setup.{Setup}
 use Rattle.line.specs.Cells.{windowEntry, Lent, view}
-use Rattle.line.specs.Line.{lineFaults}
-use Rattle.line.specs.declared.setup.Setup.{Setup}
 use Rattle.rests.specs.TableList.{StartsAt, HasId, HasEntry}
 
 module _ (setup : Setup) (lent : Lent) where

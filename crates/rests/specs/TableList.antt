@@ -7,9 +7,9 @@ use Rattle.colour.specs.declared.entry.Entry.{Entry}
 use Rattle.windows.specs.Table.{yend, lineTable, xend, windowId, tableView}
 use Rattle.windows.specs.Frame.{frameOf, lineTableOf}
 use Rattle.windows.specs.Ids.{entryByte, lineEntryFrom}
+use Rattle.setup.specs.declared.setup.Setup.{Setup}
 use Rattle.line.specs.Cells.{Cell, ofTable, windowEntry, ofColour, Lent, view}
 use Rattle.line.specs.Line.{startOf, idAt, entryAt}
-use Rattle.line.specs.declared.setup.Setup.{Setup}
 
 module _ (setup : Setup) (lent : Lent) where
   -- the line's frame entry; where window IDs are off there is none

@@ -11,7 +11,7 @@ use Rattle.chip.specs.Dots.{ran}
 use Rattle.records.specs.declared.record.Record.the-variants.{End, Write, Dots, Table, Normal, Overlay, Line}
 use Rattle.listing.specs.Text.{line}
 use Rattle.listing.specs.Text.{ok as done}
-use Rattle.line.specs.Controls.{controlsOf}
+use Rattle.setup.specs.Controls.{controlsOf}
 use Rattle.line.specs.Cells.{lentOf}
 use Rattle.line.specs.Drawn.{drawn}
 use Rattle.session.specs.Record.{Came, listed, ended, entryOf, atPosition}

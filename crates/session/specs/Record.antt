@@ -21,7 +21,7 @@ use Rattle.records.specs.declared.record.Found.{Found}
 use Rattle.records.specs.declared.record.Found.the-variants.{Is, More, Refused}
 use Rattle.listing.specs.Text.{Listed, at, line}
 use Rattle.listing.specs.Text as text
-use Rattle.line.specs.Controls.{controlsOf}
+use Rattle.setup.specs.Controls.{controlsOf}
 use Rattle.line.specs.Cells.{lentOf}
 use Rattle.line.specs.Drawn.{drawn}
 use Rattle.session.specs.Held.{Held, withChip, withTable, withNormal, withOverlay, withLine}

@@ -8,7 +8,7 @@ ghost use Rattle.chip.specs.Dots.{ran};
 ghost use Rattle.chip.specs.Dots.{told as toldOfDots};
 ghost use Rattle.listing.specs.Text.{said, line};
 ghost use Rattle.listing.specs.Text.{ok as done};
-ghost use Rattle.line.specs.Controls.{controlsOf};
+ghost use Rattle.setup.specs.Controls.{controlsOf};
 ghost use Rattle.line.specs.Cells.{lentOf};
 ghost use Rattle.line.specs.Drawn.{drawn};
 ghost use Rattle.line.specs.Drawn.{told as toldOfLine};
@@ -20,9 +20,9 @@ use crate::keep::keep;
 use crate::session::Session;
 use crate::step::Answer;
 use chip::state::State;
-use line::controls::Controls;
 use listing::entry::Entry;
 use records::record::Record;
+use setup::controls::Controls;
 use timing::Position;
 
 // The session after a record, and its answer.

@@ -8,16 +8,17 @@ use lib.ListN.{length}
 use Rattle.rules.specs.Rule.{ok}
 use Rattle.windows.specs.declared.frame.LineTable.{LineTable}
 use Rattle.chip.proofs.state.State.good.Reads as good-reads
+use Rattle.setup.specs.declared.setup.Setup.{Setup}
+use Rattle.setup.proofs.Fitted.{fitted}
+use Rattle.setup.proofs.controls.Controls.of.Reads as of-reads
 use Rattle.line.specs.Cells.{lentOf}
 use Rattle.line.specs.Drawn.{setupOf}
 use Rattle.line.specs.Inner.{Sized, CheckedTold, Drawable}
-use Rattle.line.specs.declared.setup.Setup.{Setup}
 use Rattle.line.proofs.Result.{controls-sized, drawn-by}
-use Rattle.line.proofs.Whole.{fitted, line-drawn}
-use Rattle.line.proofs.controls.Controls.draw_runs.Reads as draw-runs-reads
-use Rattle.line.proofs.controls.Controls.of.Reads as of-reads
+use Rattle.line.proofs.Whole.{line-drawn}
+use Rattle.line.proofs.draw.checked.Reads as checked-reads
 use Rattle.line.proofs.draw.draw.Reads as reads
-use Rattle.line.proofs.setup.Setup.checked.Reads as checked-reads
+use Rattle.line.proofs.passes.draw_runs.Reads as draw-runs-reads
 use Rattle.line.proofs.draw.draw.Lts as lts
 use Rattle.line.proofs.draw.draw.Statement.{statement}
 use Rattle.line.proofs.draw.draw.Tie as tie
@@ -66,7 +67,7 @@ of-requires : tie.Need-of-requires
 of-requires c κs = search needs
 
 checked-requires : tie.Need-checked-requires
-checked-requires c κs = (subst Sized (sym (c .of .ensures)) (controls-sized _), refl, refl)
+checked-requires c κs = (refl, refl)
 
 enum-known-checked : tie.Need-enum-known-checked
 enum-known-checked c = search needs

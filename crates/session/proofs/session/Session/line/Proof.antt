@@ -6,7 +6,7 @@ use borrow.Author.Needs.{needs}
 use denote.Ref.{now}
 use lib.ListN.{take}
 use Rattle.listing.specs.Text.{line}
-use Rattle.line.specs.Controls.{controlsOf}
+use Rattle.setup.specs.Controls.{controlsOf}
 use Rattle.line.specs.Cells.{lentOf}
 use Rattle.line.specs.Drawn.{told, drawn}
 use Rattle.session.specs.Record.{entryOf}

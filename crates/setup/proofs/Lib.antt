@@ -1,0 +1,4 @@
+pub mod Numbers
+pub mod Lengths
+pub mod Fitted
+pub mod Unique
