@@ -1,6 +1,9 @@
 //! How long lines, dots, writes, reads and sessions take: the proved library and program beside the plain Rust model, as
 //! one table. The words are the paths of the proved program and of the model's.
 
+#[path = "../tests/answers.rs"]
+mod answers;
+#[path = "../tests/by_value.rs"]
 mod by_value;
 mod calls;
 mod chip;

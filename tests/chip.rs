@@ -1,5 +1,6 @@
 //! Register writes and reads, the colour queue and dots: the proved library against the plain model, call by call.
 
+mod answers;
 #[path = "chip/draw.rs"]
 mod draw;
 mod files;

@@ -1,5 +1,6 @@
 //! Lines: the proved library against the plain model.
 
+mod answers;
 #[path = "line/case.rs"]
 mod case;
 #[path = "line/draw.rs"]

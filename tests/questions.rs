@@ -1,5 +1,6 @@
 //! The two questions, asked of the proved library and of the plain model.
 
+mod answers;
 mod library;
 mod model;
 mod numbers;

@@ -1,5 +1,6 @@
 //! Steps of sessions: the proved library against the plain model, call by call.
 
+mod answers;
 #[path = "session/damage.rs"]
 mod damage;
 #[path = "step/draw.rs"]

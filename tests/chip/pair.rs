@@ -1,5 +1,6 @@
 //! The library and the model side by side, on equal states and equal memories.
 
+use crate::answers::{Dotted, ReadBack, Written};
 use crate::library;
 use crate::model::beam::Signals;
 use crate::model::chip::State;
@@ -57,11 +58,11 @@ impl Call {
     fn of_library(self, state: State, store: &mut [u32]) -> Outcome {
         match self {
             Self::Write { address, value } => {
-                let library::Written { state, number, place } = library::write(state, store, address, value);
+                let Written { state, number, place } = library::write(state, store, address, value);
                 Outcome { state, answer: Answer { number, place, values: [0; 4] } }
             }
             Self::Read { address } => {
-                let library::ReadBack { state, number, place, word } = library::read(state, store, address);
+                let ReadBack { state, number, place, word } = library::read(state, store, address);
                 Outcome { state, answer: Answer { number, place, values: [word, 0, 0, 0] } }
             }
             Self::Dot => Self::of_dotted(library::dot(state, store)),
@@ -69,8 +70,8 @@ impl Call {
         }
     }
 
-    fn of_dotted(dotted: library::Dotted) -> Outcome {
-        let library::Dotted { state, number, place, reported, hsync, vsync, blank } = dotted;
+    fn of_dotted(dotted: Dotted) -> Outcome {
+        let Dotted { state, number, place, reported, hsync, vsync, blank } = dotted;
         Outcome { state, answer: Answer { number, place, values: [reported, hsync, vsync, blank] } }
     }
 

@@ -1,5 +1,6 @@
 //! The library and the model side by side, on equal states and equal memories.
 
+use crate::answers::Drawn;
 use crate::case::Case;
 use crate::library;
 use crate::model::chip::State;
@@ -136,7 +137,7 @@ impl Pair {
             overlay: self.overlay.put(&case.overlay),
             output: self.output.put(&case.output),
         };
-        let library::Drawn { state, number, place } = library::line(case.state, case.y, lent);
+        let Drawn { state, number, place } = library::line(case.state, case.y, lent);
         let still = [
             ("store", self.store.is_still(&case.store)),
             ("table", self.table.is_still(&case.table)),

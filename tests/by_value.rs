@@ -3,7 +3,7 @@
 // A slice goes as its pointer and its length, as in the library.
 #![allow(improper_ctypes_definitions)]
 
-use crate::library::{Dotted, ReadBack, Written};
+use crate::answers::{Dotted, ReadBack, Written};
 use crate::model::beam::Signals;
 use crate::model::chip::{Refusal, State};
 
