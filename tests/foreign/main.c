@@ -17,7 +17,7 @@ enum { LONGEST_ROUND = 60 };
 static const char *const names[CALLS] = {"no call", "entry_defined", "signal_holds", "write", "read", "dot", "dots", "line", "step"};
 static uint64_t answers[CALLS][15];
 
-/* The call that is being made, and the words that say where in the run it is. */
+/* The call that is being made or was made last, and the words that say where in the run it is. */
 static volatile call now;
 static char where[128];
 
@@ -26,10 +26,8 @@ void calling(call which) {
 }
 
 void answered(uint32_t number) {
-    const call which = now;
-    now = NO_CALL;
     holds(number < 15, "a number that there isn't");
-    answers[which][number]++;
+    answers[now][number]++;
 }
 
 /* Writes words where nothing else may be done any more. */
@@ -47,7 +45,7 @@ static void tell(const char *words) {
 static void tell_where(const char *what) {
     tell("foreign input: ");
     tell(what);
-    tell(", in ");
+    tell(", in or after ");
     tell(names[now]);
     tell(where);
 }
