@@ -1,4 +1,4 @@
-/* Rounds of foreign input for so many seconds, from a seed and from a round on: main SECONDS SEED ROUND FILE.. */
+/* Rounds of foreign input for so many seconds of the processor, from a seed and from a round on: main SECONDS SEED ROUND FILE.. */
 #include <inttypes.h>
 #include <signal.h>
 #include <stdio.h>
@@ -106,7 +106,7 @@ int main(int count, char **words) {
         fputs("main SECONDS SEED ROUND FILE..\n", stderr);
         return 2;
     }
-    const time_t end = time(NULL) + strtol(words[1], NULL, 10);
+    const double seconds = strtod(words[1], NULL);
     const uint64_t seed = strtoull(words[2], NULL, 10), first = strtoull(words[3], NULL, 10);
     uint64_t number = first;
     for (int file = 4; file < count; file++)
@@ -116,7 +116,7 @@ int main(int count, char **words) {
     watch();
     do
         one_round(seed, number++);
-    while (time(NULL) < end);
+    while ((double)clock() < seconds * CLOCKS_PER_SEC);
     for (int which = ENTRY_DEFINED; which < CALLS; which++)
         print_answers((call)which);
     printf("foreign input: %" PRIu64 " rounds, in which nothing crashed, hung or wrote past what was lent\n", number - first);
