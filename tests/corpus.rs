@@ -4,6 +4,10 @@
 #[path = "session/cases.rs"]
 mod cases;
 mod model;
+#[path = "session/recorded.rs"]
+mod recorded;
+#[path = "session/written.rs"]
+mod written;
 
 use std::collections::{BTreeMap, BTreeSet};
 use std::path::{Path, PathBuf};
@@ -32,6 +36,7 @@ fn main() -> ExitCode {
 fn compare_all(cases: &[Case], write: bool) -> Result<String, String> {
     for case in cases {
         listed_as_by_hand(case)?;
+        written_and_read(case)?;
     }
     let files = crate_files(cases);
     if write {
@@ -74,6 +79,15 @@ fn listed_as_by_hand(case: &Case) -> Result<(), String> {
     }
     let Case { name, shows, listing: by_hand, .. } = case;
     Err(format!("{name}: {shows}\nby hand:\n{by_hand}the model:\n{listing}"))
+}
+
+/// A case that is printed can be read again.
+fn written_and_read(case: &Case) -> Result<(), String> {
+    let text = written::case(&case.name, &case.shows, &case.bytes, case.listing.as_bytes());
+    match &cases::parse(&text)?[..] {
+        [again] if again.bytes == case.bytes && again.listing == case.listing => Ok(()),
+        _ => Err(format!("{}: not the same when it is written and read again:\n{text}", case.name)),
+    }
 }
 
 /// What the crate's files hold, by their paths.

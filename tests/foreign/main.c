@@ -1,4 +1,4 @@
-/* Rounds of foreign input for so many seconds, from a seed and from a round on: main SECONDS SEED ROUND FILE.. */
+/* Rounds of foreign input for so many seconds of the processor, from a seed and from a round on: main SECONDS SEED ROUND FILE.. */
 #include <inttypes.h>
 #include <signal.h>
 #include <stdio.h>
@@ -17,7 +17,7 @@ enum { LONGEST_ROUND = 60 };
 static const char *const names[CALLS] = {"no call", "entry_defined", "signal_holds", "write", "read", "dot", "dots", "line", "step"};
 static uint64_t answers[CALLS][15];
 
-/* The call that is being made, and the words that say where in the run it is. */
+/* The call that is being made or was made last, and the words that say where in the run it is. */
 static volatile call now;
 static char where[128];
 
@@ -26,10 +26,8 @@ void calling(call which) {
 }
 
 void answered(uint32_t number) {
-    const call which = now;
-    now = NO_CALL;
     holds(number < 15, "a number that there isn't");
-    answers[which][number]++;
+    answers[now][number]++;
 }
 
 /* Writes words where nothing else may be done any more. */
@@ -47,7 +45,7 @@ static void tell(const char *words) {
 static void tell_where(const char *what) {
     tell("foreign input: ");
     tell(what);
-    tell(", in ");
+    tell(", in or after ");
     tell(names[now]);
     tell(where);
 }
@@ -108,7 +106,7 @@ int main(int count, char **words) {
         fputs("main SECONDS SEED ROUND FILE..\n", stderr);
         return 2;
     }
-    const time_t end = time(NULL) + strtol(words[1], NULL, 10);
+    const double seconds = strtod(words[1], NULL);
     const uint64_t seed = strtoull(words[2], NULL, 10), first = strtoull(words[3], NULL, 10);
     uint64_t number = first;
     for (int file = 4; file < count; file++)
@@ -118,7 +116,7 @@ int main(int count, char **words) {
     watch();
     do
         one_round(seed, number++);
-    while (time(NULL) < end);
+    while ((double)clock() < seconds * CLOCKS_PER_SEC);
     for (int which = ENTRY_DEFINED; which < CALLS; which++)
         print_answers((call)which);
     printf("foreign input: %" PRIu64 " rounds, in which nothing crashed, hung or wrote past what was lent\n", number - first);

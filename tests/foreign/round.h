@@ -10,7 +10,7 @@ typedef enum { NO_CALL, ENTRY_DEFINED, SIGNAL_HOLDS, WRITE, READ, DOT, DOTS, LIN
 /* Says which call is being made, for whoever has to tell of a crash. */
 void calling(call which);
 
-/* Counts an answer by its number, and says that no call is being made. */
+/* Counts an answer of that call by its number. */
 void answered(uint32_t number);
 
 /* Ends the program with what is wrong, unless it holds. */

@@ -21,6 +21,7 @@ static bulitampaw_state good_state(void) {
     if (one_in(2)) {
         state.control[1] = 0x0FFF0FFF;
         state.control[6] &= 0x07FF07FF;
+        state.control[7] |= one_in(8) ? 0x7FF : 0;
     }
     state.at.x = (uint32_t)below(4096);
     state.at.y = (uint32_t)below(4096);

@@ -157,6 +157,9 @@ fn any_row(numbers: &mut Numbers) -> Vec<u8> {
 
 /// Mostly a table that has the line; else any bytes.
 fn table(numbers: &mut Numbers, y: u32, width: u32) -> Vec<u8> {
+    if numbers.one_in(128) {
+        return long_table(numbers, y, width);
+    }
     let length = match numbers.below(64) {
         0 => numbers.below(65_537),
         1 => 65_536 - numbers.below(6),
@@ -168,20 +171,33 @@ fn table(numbers: &mut Numbers, y: u32, width: u32) -> Vec<u8> {
     if numbers.one_in(16) {
         return table;
     }
-    let passed_over = match numbers.below(64) {
-        0 => 2030 + numbers.below(25),
-        1..=8 => numbers.below(60),
-        _ => numbers.below(4),
-    };
+    let passed_over = if numbers.one_in(8) { numbers.below(60) } else { numbers.below(4) };
     for number in 0..passed_over {
         let end = if y > 0 && !numbers.one_in(64) { numbers.below(y) } else { numbers.below(2048) };
         frame_entry(numbers, &mut table, number, end, length);
     }
+    serve(numbers, &mut table, passed_over, y, width);
+    table
+}
+
+/// A table in which about as many frame entries are passed over as are looked at.
+fn long_table(numbers: &mut Numbers, y: u32, width: u32) -> Vec<u8> {
+    let length = 8192 + numbers.below(3000);
+    let mut table = bytes(numbers, length);
+    let passed_over = 2040 + numbers.below(12);
+    for number in 0..passed_over {
+        frame_entry(numbers, &mut table, number, y.saturating_sub(1), length);
+    }
+    serve(numbers, &mut table, passed_over, y, width);
+    table
+}
+
+/// Puts in a frame entry of this number that serves a line, and its line entries.
+fn serve(numbers: &mut Numbers, table: &mut [u8], number: u32, y: u32, width: u32) {
     let any = y + numbers.below(2048 - y);
     let end = numbers.pick(&[y, 2047, any]);
-    let start = frame_entry(numbers, &mut table, passed_over, end, length);
-    line_entries(numbers, &mut table, start, width);
-    table
+    let start = frame_entry(numbers, table, number, end, table.len() as u32);
+    line_entries(numbers, table, start, width);
 }
 
 /// Puts a frame entry in, with garbage in its other bits, and answers where its line table starts.

@@ -54,7 +54,7 @@ impl Display for Wanted {
 impl Display for Difference {
     fn fmt(&self, f: &mut Formatter) -> fmt::Result {
         let Self { case, library, model, wanted } = self;
-        write!(f, "{}", case.read_alone())?;
+        write!(f, "{}", if wanted.is_some() { case.read_alone() } else { case.clone() })?;
         writeln!(f, "  library: {}", library.answer)?;
         writeln!(f, "  model:   {model}")?;
         if let Some(wanted) = wanted {

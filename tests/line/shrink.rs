@@ -1,5 +1,7 @@
 //! How a line that shows a difference is made small.
 
+use std::ops::Range;
+
 use crate::case::Case;
 use crate::model::beam::Position;
 use crate::model::queue::Queue;
@@ -21,9 +23,41 @@ pub fn smallest(mut difference: Box<Difference>) -> Box<Difference> {
         });
         match plainer {
             Some(found) => difference = found,
-            None => return difference,
+            None => return emptied(difference, &mut pair),
         }
     }
+}
+
+/// Puts zeros for parts of what is lent, long ones first, as long as the case still shows a difference.
+fn emptied(mut difference: Box<Difference>, pair: &mut Pair) -> Box<Difference> {
+    let Case { store, table, normal, overlay, .. } = &difference.case;
+    for (part, length) in PARTS.iter().zip([store.len(), table.len(), normal.len(), overlay.len()]) {
+        let mut size = length;
+        while size > 0 {
+            for from in (0..length).step_by(size) {
+                let mut candidate = difference.case.clone();
+                if part(&mut candidate, from..length.min(from + size)) {
+                    difference = pair.lend(&candidate).err().unwrap_or(difference);
+                }
+            }
+            size /= 2;
+        }
+    }
+    difference
+}
+
+/// Ways to put zeros into a range of store, table, normal row or overlay row; each answers whether that changed anything.
+const PARTS: [fn(&mut Case, Range<usize>) -> bool; 4] = [
+    |case, range| zeroed(&mut case.store[range]),
+    |case, range| zeroed(&mut case.table[range]),
+    |case, range| zeroed(&mut case.normal[range]),
+    |case, range| zeroed(&mut case.overlay[range]),
+];
+
+fn zeroed<T: Copy + Default + PartialEq>(part: &mut [T]) -> bool {
+    let changes = part.iter().any(|element| *element != T::default());
+    part.fill(T::default());
+    changes
 }
 
 /// How much there is to look at in a case.

@@ -3,7 +3,6 @@
 use super::recorded;
 use super::tables;
 use crate::model::colour::defined;
-use crate::model::records::MOST_DOTS;
 use crate::model::registers::CONTROL_KEPT;
 use crate::numbers::Numbers;
 
@@ -11,6 +10,9 @@ use crate::numbers::Numbers;
 const OVERLAY_ON: u32 = 1;
 const IDS_ON: u32 = 2;
 const DEPTH_32: u32 = 16;
+
+/// The most dots of a record.
+const MOST_DOTS: u32 = 16_777_216;
 
 /// Windows that mostly have an entry of their own.
 const WINDOWS: u32 = 6;
@@ -154,7 +156,8 @@ impl Draw<'_> {
         let count = match self.numbers.below(1500) {
             0 => self.numbers.below(MOST_DOTS + 1),
             1 => MOST_DOTS,
-            2..=9 => MOST_DOTS + 1 + any,
+            2..=5 => MOST_DOTS + 1,
+            6..=9 => MOST_DOTS + 1 + any,
             _ => self.numbers.pick(&[0, 1, 1, 2, any % 7, any % 100, any]),
         };
         self.records.push(recorded::dots(count));

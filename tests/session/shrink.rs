@@ -93,18 +93,22 @@ fn shortened(mut records: Vec<Vec<u8>>, differs: Differs) -> Vec<Vec<u8>> {
     records
 }
 
-/// Puts zeros for whole rows and tables, or for one half of them.
+/// The shortest part of a body that is emptied as a whole.
+const SHORTEST: usize = 8;
+
+/// Puts zeros for whole rows and tables, for their halves, and so on.
 fn emptied(mut records: Vec<Vec<u8>>, differs: Differs) -> Vec<Vec<u8>> {
     for number in 0..records.len() {
-        if let [3..=5, _, _, body @ ..] = &records[number][..] {
-            let length = body.len();
-            for zeros in [0..length, 0..length / 2, length / 2..length] {
+        let mut size = if matches!(records[number][..], [3..=5, _, _, ..]) { records[number].len() - 3 } else { 0 };
+        while size >= SHORTEST {
+            for from in (3..records[number].len()).step_by(size) {
                 let mut candidate = records.clone();
-                candidate[number][3..][zeros].fill(0);
-                if differs(&candidate) {
+                candidate[number].iter_mut().skip(from).take(size).for_each(|byte| *byte = 0);
+                if candidate != records && differs(&candidate) {
                     records = candidate;
                 }
             }
+            size /= 2;
         }
     }
     records

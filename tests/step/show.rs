@@ -6,7 +6,7 @@ use crate::files::written::{hex, lines, records};
 use crate::model::step::Stepped;
 use crate::pair::Difference;
 use crate::rooms::{NAMES, RIGHT};
-use crate::sequences::{Given, Sequence};
+use crate::sequences::{Given, Sequence, Whim};
 
 /// How many bytes are shown.
 const SHOWN: usize = 400;
@@ -24,9 +24,25 @@ impl Display for Sequence {
         writeln!(f, "  file of {} bytes:", file.len())?;
         write!(f, "{}", records(file))?;
         for (number, whim) in whims.iter().enumerate() {
-            writeln!(f, "  step {number}: {whim:?}")?;
+            writeln!(f, "  step {number}: {whim}")?;
         }
         writeln!(f, "  and plain steps after that")
+    }
+}
+
+/// How a step is called where it isn't plain.
+impl Display for Whim {
+    fn fmt(&self, f: &mut Formatter) -> fmt::Result {
+        let Self { before, more, last, damage } = self;
+        match more {
+            &usize::MAX => write!(f, "all bytes, ")?,
+            more => write!(f, "{more} bytes more, ")?,
+        }
+        if *before < usize::MAX {
+            write!(f, "from {before} before the record on, ")?;
+        }
+        write!(f, "last {last}")?;
+        damage.iter().try_for_each(|damage| write!(f, ", with {damage:?}"))
     }
 }
 

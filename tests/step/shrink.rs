@@ -4,14 +4,14 @@ use crate::files::{of_model, shrink};
 use crate::model::step::Held;
 use crate::pair::{Difference, Pair};
 use crate::rooms::Fill;
-use crate::sequences::{Sequence, Whim};
+use crate::sequences::{Given, Sequence, Whim};
 
 /// The sequence with plain steps and a plain start where they will do, and a small file.
 pub fn smallest(mut sequence: Sequence) -> Sequence {
-    for plainer in PLAINER {
-        let mut candidate = sequence.clone();
-        plainer(&mut candidate);
-        replace_if_differs(&mut sequence, candidate);
+    make_start_plainer(&mut sequence);
+    if !sequence.whims.is_empty() {
+        begin_at_the_last(&mut sequence);
+        make_start_plainer(&mut sequence);
     }
     if let Some((number, _)) = difference(&sequence) {
         sequence.whims.truncate(number + 1);
@@ -27,6 +27,24 @@ pub fn smallest(mut sequence: Sequence) -> Sequence {
         difference(&Sequence { file: file.to_vec(), ..sequence.clone() }).is_some()
     });
     Sequence { file, ..sequence }
+}
+
+/// Starts from the session before the step that differs, where that step alone differs too.
+fn begin_at_the_last(sequence: &mut Sequence) {
+    let Some((number, difference)) = difference(sequence) else { return };
+    let Given { held, bytes, place, last, .. } = difference.given;
+    let damage = sequence.whims.get(number).map_or(Vec::new(), |whim| whim.damage.clone());
+    let whims = vec![Whim { before: 0, last, damage, ..Whim::PLAIN }];
+    let file = bytes.get(place..).unwrap_or_default().to_vec();
+    replace_if_differs(sequence, Sequence { start: held, file, whims, ..sequence.clone() });
+}
+
+fn make_start_plainer(sequence: &mut Sequence) {
+    for plainer in PLAINER {
+        let mut candidate = sequence.clone();
+        plainer(&mut candidate);
+        replace_if_differs(sequence, candidate);
+    }
 }
 
 /// The difference that a sequence shows, and how many steps are alike before it.
