@@ -157,7 +157,7 @@ static unsigned long load_colours(chip *c)
 static void look_at_a_frame(chip *c)
 {
     unsigned long dot, shown = 0, lines = 0, frames = 0;
-    bulitampaw_signals before = {0, 0, 0}, now = {0, 0, 0};
+    bulitampaw_signals before = {0, 0, 0, 0}, now = {0, 0, 0, 0};
     expect_done(bulitampaw_state_dot(&c->state, c->store, &before), "a dot");
     for (dot = 0; dot < (unsigned long)TOTAL_WIDTH * TOTAL_LINES; dot++) {
         expect_done(bulitampaw_state_dot(&c->state, c->store, &now), "a dot");

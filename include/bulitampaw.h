@@ -3,8 +3,8 @@
    Each call is lent what it works on for as long as it runs, and keeps nothing of it. The state goes in and comes back by value; the
    functions at the end, named bulitampaw_state_ and bulitampaw_session_, take a pointer to it instead and read more easily.
 
-   In every answer number 0 says that the call was done. Any other number is the refusal's, and its place stands beside it. A refused
-   call hands the state back as it was and leaves every word that it was lent. A call checks all it is given but the pointers: each must lead to as many
+   In every answer the refusal's number 0 says that the call was done; any other is the number of why it was not, and its place stands beside it. A
+   refused call hands the state back as it was and leaves every word that it was lent. A call checks all it is given but the pointers: each must lead to as many
    words or bytes as its length says, and what is lent to be changed overlaps nothing else. Where a length is 0 the pointer may be null. */
 #ifndef BULITAMPAW_H
 #define BULITAMPAW_H
@@ -95,28 +95,40 @@ typedef struct {
     bulitampaw_queue queue;
 } bulitampaw_state;
 
+/* Why a call was refused: number and place. Number 0 says that it was done; its place is 0 too. */
+typedef struct {
+    uint32_t number, place;
+} bulitampaw_refusal;
+
+/* Where reported is 1, the signals of the last dot, each 1 or 0; where it is 0 no dot was made, and all are 0. */
+typedef struct {
+    uint32_t reported, hsync, vsync, blank;
+} bulitampaw_signals;
+
 /* What a write answers. */
 typedef struct {
     bulitampaw_state state;
-    uint32_t number, place;
+    bulitampaw_refusal refusal;
 } bulitampaw_written;
 
 /* What a read answers: the word, or 0 where it is refused. */
 typedef struct {
     bulitampaw_state state;
-    uint32_t number, place, word;
+    bulitampaw_refusal refusal;
+    uint32_t word;
 } bulitampaw_read_back;
 
-/* What dots answer. Where reported is 1 the signals are those of the last dot, each 1 or 0; where it is 0 no dot was made. */
+/* What dots answer, one or many. */
 typedef struct {
     bulitampaw_state state;
-    uint32_t number, place, reported, hsync, vsync, blank;
+    bulitampaw_refusal refusal;
+    bulitampaw_signals signals;
 } bulitampaw_dotted;
 
 /* What a line answers. */
 typedef struct {
     bulitampaw_state state;
-    uint32_t number, place;
+    bulitampaw_refusal refusal;
 } bulitampaw_drawn;
 
 /* A recorded session: the chip, how many bytes of the lent table and rows are there, and how many records stood before the next. */
@@ -129,7 +141,7 @@ typedef struct {
 /* What a step comes to. */
 enum {
     BULITAMPAW_CAME_REFUSED = 0, /* nothing: the call was refused */
-    BULITAMPAW_CAME_LISTED = 1,  /* a record was run, and its entry of the listing is the text; number and place are the record's */
+    BULITAMPAW_CAME_LISTED = 1,  /* a record was run, and its entry of the listing is the text; the refusal is the record's */
     BULITAMPAW_CAME_END = 2,     /* the end record is reached */
     BULITAMPAW_CAME_MORE = 3,    /* the bytes end within a record, and the file goes on */
     BULITAMPAW_CAME_STOPPED = 4  /* a fault of the file, 12 to 14, which the text lists: the run is over */
@@ -139,7 +151,8 @@ enum {
 typedef struct {
     bulitampaw_session session;
     size_t next, text;
-    uint32_t number, place, came;
+    bulitampaw_refusal refusal;
+    uint32_t came;
 } bulitampaw_stepped;
 
 /* A fresh state: all zero, nothing waiting. */
@@ -175,7 +188,7 @@ bulitampaw_session bulitampaw_fresh_session(void);
    zero byte, at the front of the text. The next step goes on at the place that comes back. A last other than 0 says that the file ends with these bytes.
    Where it comes to BULITAMPAW_CAME_MORE nothing was done: lend the bytes from that place on again, with more behind them or with last set.
    Refused by 11, where the session holds more than there is room for, or by 5 at the lowest place. Such a refusal is the call's and no line of
-   the listing; what a record is refused for stands in the text, and in number and place. */
+   the listing; what a record is refused for stands in the text and in the answer. */
 bulitampaw_stepped bulitampaw_step(bulitampaw_session session, const uint8_t *bytes, size_t length, size_t place, uint32_t last,
     uint32_t *store, size_t store_length, uint8_t *table, size_t table_length, uint8_t *normal, size_t normal_length,
     uint8_t *overlay, size_t overlay_length, uint32_t *output, size_t output_length, uint8_t *text, size_t text_length);
@@ -187,16 +200,6 @@ uint32_t bulitampaw_entry_defined(uint32_t entry, uint32_t depth);
 uint32_t bulitampaw_signal_holds(uint32_t on, uint32_t off, uint32_t p);
 
 /* The same calls with a pointer to the state or the session, which they bring up to date. */
-
-/* Why a call was refused; number 0 says that it was done. */
-typedef struct {
-    uint32_t number, place;
-} bulitampaw_refusal;
-
-/* The signals of a dot, each 1 or 0. */
-typedef struct {
-    uint32_t hsync, vsync, blank;
-} bulitampaw_signals;
 
 /* What a line is lent to read besides the store. */
 typedef struct {
@@ -217,25 +220,16 @@ typedef struct {
 /* What a step comes to, how many bytes of text it put, and the refusal. */
 typedef struct {
     size_t text;
+    bulitampaw_refusal refusal;
     uint32_t came;
-    bulitampaw_refusal refusal;
 } bulitampaw_came;
-
-/* A refusal of this number at this place. */
-static inline bulitampaw_refusal bulitampaw_refused(uint32_t number, uint32_t place)
-{
-    bulitampaw_refusal refusal;
-    refusal.number = number;
-    refusal.place = place;
-    return refusal;
-}
 
 /* A write. The store has BULITAMPAW_STORE_WORDS words, here and below. */
 static inline bulitampaw_refusal bulitampaw_state_write(bulitampaw_state *state, uint32_t *store, uint32_t address, uint32_t value)
 {
     const bulitampaw_written written = bulitampaw_write(*state, store, BULITAMPAW_STORE_WORDS, address, value);
     *state = written.state;
-    return bulitampaw_refused(written.number, written.place);
+    return written.refusal;
 }
 
 /* A read. The word is 0 where it is refused. */
@@ -243,33 +237,27 @@ static inline bulitampaw_refusal bulitampaw_state_read(const bulitampaw_state *s
 {
     const bulitampaw_read_back read = bulitampaw_read(*state, store, BULITAMPAW_STORE_WORDS, address);
     *word = read.word;
-    return bulitampaw_refused(read.number, read.place);
+    return read.refusal;
 }
 
-/* Takes over what dots answered. Where signals isn't null and a dot was made, they become those of the last one. */
-static inline bulitampaw_refusal bulitampaw_reported(bulitampaw_state *state, const bulitampaw_dotted *dotted, bulitampaw_signals *signals)
-{
-    *state = dotted->state;
-    if (signals != NULL && dotted->reported != 0) {
-        signals->hsync = dotted->hsync;
-        signals->vsync = dotted->vsync;
-        signals->blank = dotted->blank;
-    }
-    return bulitampaw_refused(dotted->number, dotted->place);
-}
-
-/* One dot. */
+/* One dot. Where signals isn't null, they become the dot's. */
 static inline bulitampaw_refusal bulitampaw_state_dot(bulitampaw_state *state, uint32_t *store, bulitampaw_signals *signals)
 {
     const bulitampaw_dotted dotted = bulitampaw_dot(*state, store, BULITAMPAW_STORE_WORDS);
-    return bulitampaw_reported(state, &dotted, signals);
+    *state = dotted.state;
+    if (signals != NULL)
+        *signals = dotted.signals;
+    return dotted.refusal;
 }
 
-/* So many dots. */
+/* So many dots. Where signals isn't null, they become those of the last one. */
 static inline bulitampaw_refusal bulitampaw_state_dots(bulitampaw_state *state, uint32_t *store, uint32_t count, bulitampaw_signals *signals)
 {
     const bulitampaw_dotted dotted = bulitampaw_dots(*state, store, BULITAMPAW_STORE_WORDS, count);
-    return bulitampaw_reported(state, &dotted, signals);
+    *state = dotted.state;
+    if (signals != NULL)
+        *signals = dotted.signals;
+    return dotted.refusal;
 }
 
 /* A line, drawn into an output of so many words. */
@@ -279,7 +267,7 @@ static inline bulitampaw_refusal bulitampaw_state_line(const bulitampaw_state *s
     const bulitampaw_drawn drawn = bulitampaw_line(*state, y, store, BULITAMPAW_STORE_WORDS,
         planes->table, planes->table_length, planes->normal, planes->normal_length,
         planes->overlay, planes->overlay_length, output, output_length);
-    return bulitampaw_refused(drawn.number, drawn.place);
+    return drawn.refusal;
 }
 
 /* A step at a place of some bytes, which becomes that of the next record. The text stands in the rooms. */
@@ -293,8 +281,8 @@ static inline bulitampaw_came bulitampaw_session_step(bulitampaw_session *sessio
     *session = stepped.session;
     *place = stepped.next;
     came.text = stepped.text;
+    came.refusal = stepped.refusal;
     came.came = stepped.came;
-    came.refusal = bulitampaw_refused(stepped.number, stepped.place);
     return came;
 }
 

@@ -9,23 +9,23 @@ static bulitampaw_state state;
 static void writes(const char *what, uint32_t address, uint32_t value, uint32_t number, uint32_t place) {
     bulitampaw_written written = bulitampaw_write(state, store, BULITAMPAW_STORE_WORDS, address, value);
     state = written.state;
-    same(what, written.number, number);
-    same(what, written.place, place);
+    same(what, written.refusal.number, number);
+    same(what, written.refusal.place, place);
 }
 
 static void reads(const char *what, uint32_t address, uint32_t word) {
     bulitampaw_read_back read = bulitampaw_read(state, store, BULITAMPAW_STORE_WORDS, address);
     state = read.state;
-    same(what, read.number, 0);
+    same(what, read.refusal.number, 0);
     same(what, read.word, word);
 }
 
 static void dots(const char *what, uint32_t count, uint32_t reported, uint32_t blank, uint32_t x, uint32_t y) {
     bulitampaw_dotted dotted = bulitampaw_dots(state, store, BULITAMPAW_STORE_WORDS, count);
     state = dotted.state;
-    same(what, dotted.number, 0);
-    same(what, dotted.reported, reported);
-    same(what, dotted.blank, blank);
+    same(what, dotted.refusal.number, 0);
+    same(what, dotted.signals.reported, reported);
+    same(what, dotted.signals.blank, blank);
     same(what, state.at.x, x);
     same(what, state.at.y, y);
 }
@@ -56,11 +56,11 @@ static void refusals(void) {
     writes("the 65th", 0x020000, 1, 4, 0x020000);
     writes("stray bits before no room", 0x020000, 0x01000000, 3, 0x020000);
     writes("a gamma word while 64 wait", 0x030000, 0xFFFFFF, 0, 0);
-    same("a store that is too long", bulitampaw_write(state, store, BULITAMPAW_STORE_WORDS + 1, 0, 0).number, 5);
-    same("its place", bulitampaw_write(state, store, 0, 0, 0).place, 1);
+    same("a store that is too long", bulitampaw_write(state, store, BULITAMPAW_STORE_WORDS + 1, 0, 0).refusal.number, 5);
+    same("its place", bulitampaw_write(state, store, 0, 0, 0).refusal.place, 1);
     bulitampaw_state bad = state;
     bad.at.x = 4096;
-    same("a state against its rule", bulitampaw_dot(bad, store, 0).number, 11);
+    same("a state against its rule", bulitampaw_dot(bad, store, 0).refusal.number, 11);
     same("its position stays", bulitampaw_dot(bad, store, 0).state.at.x, 4096);
 }
 
@@ -69,16 +69,16 @@ static void nothing_lent(void) {
     bulitampaw_state bad = bulitampaw_fresh();
     state = bulitampaw_fresh();
     bad.queue.waiting = 65;
-    same("a write of no store", bulitampaw_write(state, NULL, 0, 0, 0).number, BULITAMPAW_WRONG_LENGTH);
-    same("a read of no store", bulitampaw_read(state, NULL, 0, 0).place, BULITAMPAW_STORE);
+    same("a write of no store", bulitampaw_write(state, NULL, 0, 0, 0).refusal.number, BULITAMPAW_WRONG_LENGTH);
+    same("a read of no store", bulitampaw_read(state, NULL, 0, 0).refusal.place, BULITAMPAW_STORE);
     same("a read that is refused", bulitampaw_read(state, NULL, 0, 0x24).word, 0);
-    same("a dot of no store", bulitampaw_dot(state, NULL, 0).number, BULITAMPAW_WRONG_LENGTH);
-    same("dots of no store", bulitampaw_dots(state, NULL, 0, 7).reported, 0);
-    same("no dots of no store", bulitampaw_dots(state, NULL, 0, 0).number, BULITAMPAW_WRONG_LENGTH);
-    same("a bad state and no store", bulitampaw_write(bad, NULL, 0, 0, 0).number, BULITAMPAW_BAD_STATE);
-    same("a read of a bad state", bulitampaw_read(bad, NULL, 0, 0x24).number, BULITAMPAW_BAD_STATE);
+    same("a dot of no store", bulitampaw_dot(state, NULL, 0).refusal.number, BULITAMPAW_WRONG_LENGTH);
+    same("dots of no store", bulitampaw_dots(state, NULL, 0, 7).signals.reported, 0);
+    same("no dots of no store", bulitampaw_dots(state, NULL, 0, 0).refusal.number, BULITAMPAW_WRONG_LENGTH);
+    same("a bad state and no store", bulitampaw_write(bad, NULL, 0, 0, 0).refusal.number, BULITAMPAW_BAD_STATE);
+    same("a read of a bad state", bulitampaw_read(bad, NULL, 0, 0x24).refusal.number, BULITAMPAW_BAD_STATE);
     bulitampaw_dotted dotted = bulitampaw_dots(bad, NULL, 0, 7);
-    same("dots of a bad state", dotted.number, BULITAMPAW_BAD_STATE);
+    same("dots of a bad state", dotted.refusal.number, BULITAMPAW_BAD_STATE);
     same("a bad state comes back", memcmp(&dotted.state, &bad, sizeof bad) != 0, 0);
 }
 
@@ -87,7 +87,7 @@ static void by_pointer(void) {
     static const uint32_t hsync[8] = {0, 1, 1, 0, 0, 1, 1, 0}, vsync[8] = {0, 0, 0, 0, 1, 1, 1, 1};
     static const uint32_t blank[8] = {0, 0, 0, 1, 0, 0, 0, 1};
     bulitampaw_state s = bulitampaw_fresh();
-    bulitampaw_signals signals = {9, 9, 9};
+    bulitampaw_signals signals = {9, 9, 9, 9};
     uint32_t word = 9;
     memset(store, 0, sizeof store);
     same("a total of 4 by 2", bulitampaw_state_write(&s, store, 0x04, 0x00010003).number, BULITAMPAW_DONE);
@@ -98,12 +98,13 @@ static void by_pointer(void) {
     same("stray bits", bulitampaw_state_write(&s, store, 0xFF000000u, 0x20).number, BULITAMPAW_STRAY_BITS);
     same("their place", bulitampaw_state_write(&s, store, 0xFF000004u, 0x1000).place, 4);
     same("no dots", bulitampaw_state_dots(&s, store, 0, &signals).number, BULITAMPAW_DONE);
-    same("their signals stay", signals.hsync + signals.vsync + signals.blank, 27);
+    same("their signals", signals.reported + signals.hsync + signals.vsync + signals.blank, 0);
     for (uint32_t dot = 0; dot < 8; dot++) {
         same("the position", bulitampaw_state_read(&s, store, 0x28, &word).number, BULITAMPAW_DONE);
         same("the position's word", word, dot / 4 << 16 | dot % 4);
         same("the colour before its dot", store[32 + 4095], dot < 4 ? 0u : 0xABCDEFu);
         same("a dot", bulitampaw_state_dot(&s, store, &signals).number, BULITAMPAW_DONE);
+        same("a dot reports", signals.reported, 1);
         same("horizontal sync of a dot", signals.hsync, hsync[dot]);
         same("vertical sync of a dot", signals.vsync, vsync[dot]);
         same("blank of a dot", signals.blank, blank[dot]);
@@ -115,10 +116,9 @@ static void by_pointer(void) {
     same("one dot without signals", bulitampaw_state_dot(&s, store, NULL).number, BULITAMPAW_DONE);
     same("no register", bulitampaw_state_read(&s, store, 0x2C, &word).number, BULITAMPAW_NO_REGISTER);
     same("the word of no register", word, 0);
-    same("a refusal that is made up", bulitampaw_refused(7, 8).place, 8);
     s.control[8] = 0x1000;
     same("a dot of a bad state", bulitampaw_state_dot(&s, store, &signals).number, BULITAMPAW_BAD_STATE);
-    same("its signals stay", signals.hsync << 2 | signals.vsync << 1 | signals.blank, 6);
+    same("its signals", signals.reported + signals.hsync + signals.vsync + signals.blank, 0);
 }
 
 int main(void) {

@@ -40,8 +40,8 @@ static void line(const char *what, uint32_t y, uint32_t number, uint32_t place, 
         output[x] = OLD;
     bulitampaw_drawn drawn = bulitampaw_line(state, y, store, store_length, table, table_length, normal, normal_length,
         overlay, overlay_length, output, output_length);
-    same(what, drawn.number, number);
-    same(what, drawn.place, place);
+    same(what, drawn.refusal.number, number);
+    same(what, drawn.refusal.place, place);
     same(what, memcmp(&drawn.state, &state, sizeof state) != 0, 0);
     for (size_t x = 0; x < PIXELS + 2; x++)
         same(what, output[x], x < count ? colours[x] : OLD);
@@ -188,7 +188,7 @@ static void by_pointer(void) {
 
 /* The number of a line that is lent nothing. */
 static uint32_t number_of_nothing(uint32_t y) {
-    return bulitampaw_line(state, y, NULL, 0, NULL, 0, NULL, 0, NULL, 0, NULL, 0).number;
+    return bulitampaw_line(state, y, NULL, 0, NULL, 0, NULL, 0, NULL, 0, NULL, 0).refusal.number;
 }
 
 /* What a line answers that is lent the first so many of store, normal row, overlay row and output, and no table. */
@@ -205,13 +205,13 @@ static void nothing_lent(void) {
     uint32_t output[1];
     begin();
     same("no table and no overlay row, both off",
-        bulitampaw_line(state, 0, store, BULITAMPAW_STORE_WORDS, NULL, 0, normal, 2, NULL, 0, output, 1).number, BULITAMPAW_DONE);
+        bulitampaw_line(state, 0, store, BULITAMPAW_STORE_WORDS, NULL, 0, normal, 2, NULL, 0, output, 1).refusal.number, BULITAMPAW_DONE);
     state.control[0] = 3;
     for (size_t parts = 0; parts < 4; parts++) {
-        same("a part that isn't lent", lent_the_first(parts).number, BULITAMPAW_WRONG_LENGTH);
-        same("its place", lent_the_first(parts).place, missing[parts]);
+        same("a part that isn't lent", lent_the_first(parts).refusal.number, BULITAMPAW_WRONG_LENGTH);
+        same("its place", lent_the_first(parts).refusal.place, missing[parts]);
     }
-    same("an empty table", lent_the_first(4).number, BULITAMPAW_NO_FRAME_ENTRY);
+    same("an empty table", lent_the_first(4).refusal.number, BULITAMPAW_NO_FRAME_ENTRY);
     same("before all that a line that isn't there", number_of_nothing(1), BULITAMPAW_NO_LINE);
     state.control[6] = 1;
     same("before it origin and size", number_of_nothing(1), BULITAMPAW_PAST_TOTAL);

@@ -58,8 +58,8 @@ static void text_is(const char *what, size_t length, const char *text) {
 /* A step that does nothing: it comes to this, and session, place and rooms stay. */
 static void nothing(const char *what, bulitampaw_stepped stepped, uint32_t came, uint32_t number, uint32_t place, size_t next) {
     same(what, stepped.came, came);
-    same(what, stepped.number, number);
-    same(what, stepped.place, place);
+    same(what, stepped.refusal.number, number);
+    same(what, stepped.refusal.place, place);
     same(what, stepped.next, next);
     same(what, stepped.text, 0);
     same(what, stepped.session.records, session.records);
@@ -84,8 +84,8 @@ static void whole(void) {
         const bulitampaw_stepped stepped = step(whole_case, sizeof whole_case, place, 1);
         same("the whole case", stepped.came, wanted[number].came);
         same("its places", stepped.next, wanted[number].next);
-        same("its numbers", stepped.number, wanted[number].number);
-        same("the places of its refusals", stepped.place, wanted[number].place);
+        same("its numbers", stepped.refusal.number, wanted[number].number);
+        same("the places of its refusals", stepped.refusal.place, wanted[number].place);
         same("its records", stepped.session.records, number < STEPS - 1 ? number + 1 : number);
         text_is("its texts", stepped.text, wanted[number].text);
         memset(rooms.text, OLD, stepped.text);
@@ -174,7 +174,7 @@ static void bad_state(void) {
     begin();
     session.state.control[0] = 0x20;
     bulitampaw_stepped stepped = step(whole_case, sizeof whole_case, 45, 1);
-    same("a line of a bad state", stepped.number, BULITAMPAW_BAD_STATE);
+    same("a line of a bad state", stepped.refusal.number, BULITAMPAW_BAD_STATE);
     same("its record counts", stepped.session.records, 1);
     text_is("its text", stepped.text, "refused 11 0\n");
     memset(rooms.text, OLD, stepped.text);

@@ -48,8 +48,8 @@ static void one_write(bulitampaw_state *state, size_t words) {
     calling(WRITE);
     const bulitampaw_written written =
         bulitampaw_write(*state, (uint32_t *)lent_at(STORE), words, any_address(), any() >> below(32));
-    answered(written.number);
-    refused_or_done(written.number, "abcdefl", state, &written.state);
+    answered(written.refusal.number);
+    refused_or_done(written.refusal.number, "abcdefl", state, &written.state);
     *state = written.state;
 }
 
@@ -57,11 +57,11 @@ static void one_read(bulitampaw_state *state, size_t words) {
     lent_read_only(STORE, 1);
     calling(READ);
     const bulitampaw_read_back read = bulitampaw_read(*state, (uint32_t *)lent_at(STORE), words, any_address());
-    answered(read.number);
+    answered(read.refusal.number);
     lent_read_only(STORE, 0);
-    refused_or_done(read.number, "abfl", state, &read.state);
+    refused_or_done(read.refusal.number, "abfl", state, &read.state);
     holds(lent_stays(STORE, 0) && same_state(state, &read.state), "a read changed something");
-    holds(read.number == 0 || read.word == 0, "a refused read answers a word");
+    holds(read.refusal.number == 0 || read.word == 0, "a refused read answers a word");
 }
 
 /* The longest run of dots while something waits. */
@@ -73,10 +73,10 @@ static void some_dots(bulitampaw_state *state, size_t words) {
     calling(one ? DOT : DOTS);
     const bulitampaw_dotted dotted = one ? bulitampaw_dot(*state, (uint32_t *)lent_at(STORE), words)
                                          : bulitampaw_dots(*state, (uint32_t *)lent_at(STORE), words, count);
-    answered(dotted.number);
-    refused_or_done(dotted.number, "afl", state, &dotted.state);
-    holds(dotted.reported == (dotted.number == 0 && (one || count > 0)), "a report of no dot, or none of one");
-    holds((dotted.hsync | dotted.vsync | dotted.blank) <= dotted.reported, "a signal that is neither 0 nor 1");
+    answered(dotted.refusal.number);
+    refused_or_done(dotted.refusal.number, "afl", state, &dotted.state);
+    holds(dotted.signals.reported == (dotted.refusal.number == 0 && (one || count > 0)), "a report of no dot, or none of one");
+    holds((dotted.signals.hsync | dotted.signals.vsync | dotted.signals.blank) <= dotted.signals.reported, "a signal that is neither 0 nor 1");
     *state = dotted.state;
 }
 
@@ -129,12 +129,12 @@ void round_of_lines(void) {
     const bulitampaw_drawn drawn = bulitampaw_line(state, one_in(8) ? around(height) : (uint32_t)below(height), store, words,
         (uint8_t *)lent_at(TABLE), table, (uint8_t *)lent_at(NORMAL), normal, (uint8_t *)lent_at(OVERLAY), overlay,
         (uint32_t *)lent_at(OUTPUT), output);
-    answered(drawn.number);
-    holds(among(drawn.number, "afghijkl"), "a number that a line doesn't have");
+    answered(drawn.refusal.number);
+    holds(among(drawn.refusal.number, "afghijkl"), "a number that a line doesn't have");
     holds(same_state(&state, &drawn.state), "a line changed the state");
     for (part each = STORE; each < OUTPUT; each = (part)(each + 1)) {
         lent_read_only(each, 0);
         holds(lent_stays(each, 0), "a line changed what it is lent to read");
     }
-    holds(lent_stays(OUTPUT, drawn.number == 0 ? 4 * width : 0), "a line changed words past the width, or is refused and drawn");
+    holds(lent_stays(OUTPUT, drawn.refusal.number == 0 ? 4 * width : 0), "a line changed words past the width, or is refused and drawn");
 }

@@ -138,14 +138,14 @@ static int around_rooms_stays(void) {
 static void judge(const bulitampaw_session *before, const bulitampaw_stepped *after, size_t place, size_t lent, int last) {
     const int acted = after->came == BULITAMPAW_CAME_LISTED || after->came == BULITAMPAW_CAME_END;
     holds(after->came <= BULITAMPAW_CAME_STOPPED, "a step comes to nothing that there is");
-    holds(after->number <= BULITAMPAW_TOO_MUCH, "a number that there isn't");
+    holds(after->refusal.number <= BULITAMPAW_TOO_MUCH, "a number that there isn't");
     holds(after->text <= lengths[5], "more text than there is room for");
     holds(acted ? after->next >= place + 3 && after->next <= lent : after->next == place, "a wrong next place");
     holds(after->came == BULITAMPAW_CAME_LISTED || same_session(before, &after->session), "a session that changed");
     holds(after->came == BULITAMPAW_CAME_LISTED || rooms_stay(after->text), "rooms that changed");
     holds(around_rooms_stays() && lent_stays(TEXT, after->text), "something changed past the text, or around the rooms");
     holds(after->came != BULITAMPAW_CAME_MORE || !last, "more bytes wanted of a file that ends");
-    holds((after->came == BULITAMPAW_CAME_REFUSED) == (after->number == 5 || after->number == 11) || acted, "a wrong number");
+    holds((after->came == BULITAMPAW_CAME_REFUSED) == (after->refusal.number == 5 || after->refusal.number == 11) || acted, "a wrong number");
     holds(after->text == 0 || ((uint8_t *)lent_at(TEXT))[after->text - 1] == '\n', "a text without its end");
 }
 
@@ -173,7 +173,7 @@ void round_of_steps(void) {
             last ? any() | 1 : 0, (uint32_t *)lent_at(STORE), lengths[0], (uint8_t *)lent_at(TABLE), lengths[1],
             (uint8_t *)lent_at(NORMAL), lengths[2], (uint8_t *)lent_at(OVERLAY), lengths[3],
             (uint32_t *)lent_at(OUTPUT), lengths[4], (uint8_t *)lent_at(TEXT), lengths[5]);
-        answered(stepped.number);
+        answered(stepped.refusal.number);
         lent_read_only(BYTES, 0);
         holds(lent_stays(BYTES, 0), "a step changed the file");
         judge(&session, &stepped, strange, lent_bytes(BYTES), last);

@@ -22,7 +22,7 @@ use Rattle.emulator.specs.declared.calls.Drawn.{Drawn}
 
 -- a write
 abbrev pub writeAnswer : State → Outcome Numbered (Unit {0}) → Written
-writeAnswer state answer = let refusal = refusalOf answer in record { state = state; number = refusal .number; place = refusal .place }
+writeAnswer state answer = record { state = state; refusal = refusalOf answer }
 
 -- what it answers, and the words of the store after it
 unfoldable pub writtenInNumbers : Chip → ℕ → ℕ → Written × List ℕ
@@ -32,9 +32,7 @@ writtenInNumbers chip address value =
 
 -- a read
 abbrev pub readAnswer : State → Outcome Numbered ℕ → ReadBack
-readAnswer state answer =
-    let refusal = refusalOf answer in
-    record { state = state; number = refusal .number; place = refusal .place; word = wordOf answer }
+readAnswer state answer = record { state = state; refusal = refusalOf answer; word = wordOf answer }
 
 -- what it answers; it changes no word of the store
 unfoldable pub readInNumbers : Chip → ℕ → ReadBack
@@ -42,17 +40,7 @@ readInNumbers chip address = let all = readBack chip address in readAnswer (all 
 
 -- dots, one or many
 abbrev pub dotsAnswer : State → Refused → Report → Dotted
-dotsAnswer state refusal report =
-    let signals = inNumbers report in
-    record {
-      state = state;
-      number = refusal .number;
-      place = refusal .place;
-      reported = signals .reported;
-      hsync = signals .hsync;
-      vsync = signals .vsync;
-      blank = signals .blank;
-    }
+dotsAnswer state refusal report = record { state = state; refusal = refusal; signals = inNumbers report }
 
 -- what a dot answers, and the words of the store after it
 unfoldable pub dottedInNumbers : Chip → Dotted × List ℕ
@@ -68,7 +56,7 @@ ranInNumbers chip count =
 
 -- a line
 abbrev pub lineAnswer : State → Outcome Numbered (Unit {0}) → Drawn
-lineAnswer state answer = let refusal = refusalOf answer in record { state = state; number = refusal .number; place = refusal .place }
+lineAnswer state answer = record { state = state; refusal = refusalOf answer }
 
 -- what it answers, and the words of the output after it
 unfoldable pub drawnInNumbers : State → ℕ → Lent → List ℕ → Drawn × List ℕ

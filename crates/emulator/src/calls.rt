@@ -1,8 +1,9 @@
-// What C calls on the chip: the state goes and comes by value, memory is lent, and a refusal is its number and place.
+// What C calls on the chip: the state goes and comes by value, memory is lent, and a refusal is its number and place, or 0 and 0.
 ghost use mathlib.Core.Path.{_≡_};
 ghost use Rattle.chip.specs.State.{fresh};
 ghost use Rattle.line.specs.Cells.{lentOf};
 ghost use Rattle.emulator.specs.Calls.{writtenInNumbers, readInNumbers, dottedInNumbers, ranInNumbers, drawnInNumbers};
+use crate::numbers::Reported;
 use crate::numbers::in_numbers;
 use crate::numbers::of_dot;
 use crate::numbers::of_dots;
@@ -13,42 +14,36 @@ use crate::numbers::report_of_dot;
 use crate::numbers::report_of_dots;
 use crate::numbers::word_of;
 use chip::state::State;
+use plain::Refused;
 
-// What a write answers. Number 0: it was done.
+// What a write answers.
 #[repr(C)]
 pub struct Written {
     pub state: State,
-    pub number: u32,
-    pub place: u32,
+    pub refusal: Refused,
 }
 
-// What a read answers. Number 0: the word is what the register shows.
+// What a read answers: the word that the register shows, or 0.
 #[repr(C)]
 pub struct ReadBack {
     pub state: State,
-    pub number: u32,
-    pub place: u32,
+    pub refusal: Refused,
     pub word: u32,
 }
 
-// What dots answer. Number 0: they were done; reported 1: the signals are those of the last one.
+// What dots answer, one or many.
 #[repr(C)]
 pub struct Dotted {
     pub state: State,
-    pub number: u32,
-    pub place: u32,
-    pub reported: u32,
-    pub hsync: u32,
-    pub vsync: u32,
-    pub blank: u32,
+    pub refusal: Refused,
+    pub signals: Reported,
 }
 
-// What a line answers. Number 0: it was drawn.
+// What a line answers.
 #[repr(C)]
 pub struct Drawn {
     pub state: State,
-    pub number: u32,
-    pub place: u32,
+    pub refusal: Refused,
 }
 
 // A fresh state: all zero, its queue empty.
@@ -71,12 +66,10 @@ pub extern "C" fn bulitampaw_write(
 {
     let written = state.write(store, address, value);
     let answer = written.answer;
-    let refusal = of_write(answer);
     let next = written.state;
     Written {
         state: next,
-        number: refusal.number,
-        place: refusal.place,
+        refusal: of_write(answer),
     }
 }
 
@@ -87,14 +80,11 @@ pub extern "C" fn bulitampaw_read(state: State, store: &[u32], address: u32) -> 
 {
     let read = state.read(store, address);
     let answer = read.answer;
-    let refusal = of_read(answer);
-    let word = word_of(answer);
     let next = read.state;
     ReadBack {
         state: next,
-        number: refusal.number,
-        place: refusal.place,
-        word,
+        refusal: of_read(answer),
+        word: word_of(answer),
     }
 }
 
@@ -105,17 +95,11 @@ pub extern "C" fn bulitampaw_dot(state: State, store: &mut [u32]) -> Dotted
 {
     let dotted = state.dot(store);
     let answer = dotted.answer;
-    let refusal = of_dot(answer);
-    let report = in_numbers(report_of_dot(answer));
     let next = dotted.state;
     Dotted {
         state: next,
-        number: refusal.number,
-        place: refusal.place,
-        reported: report.reported,
-        hsync: report.hsync,
-        vsync: report.vsync,
-        blank: report.blank,
+        refusal: of_dot(answer),
+        signals: in_numbers(report_of_dot(answer)),
     }
 }
 
@@ -126,17 +110,11 @@ pub extern "C" fn bulitampaw_dots(state: State, store: &mut [u32], count: u32) -
 {
     let ran = state.dots(store, count);
     let answer = ran.answer;
-    let refusal = of_dots(answer);
-    let report = in_numbers(report_of_dots(answer));
     let next = ran.state;
     Dotted {
         state: next,
-        number: refusal.number,
-        place: refusal.place,
-        reported: report.reported,
-        hsync: report.hsync,
-        vsync: report.vsync,
-        blank: report.blank,
+        refusal: of_dots(answer),
+        signals: in_numbers(report_of_dots(answer)),
     }
 }
 
@@ -155,11 +133,9 @@ pub extern "C" fn bulitampaw_line(
 {
     let drawn = line::draw::draw(state, y, store, table, normal, overlay, output);
     let answer = drawn.answer;
-    let refusal = of_line(answer);
     let next = drawn.state;
     Drawn {
         state: next,
-        number: refusal.number,
-        place: refusal.place,
+        refusal: of_line(answer),
     }
 }

@@ -14,6 +14,7 @@ use plain::number;
 use plain::refused_by;
 
 // Whether a dot was made, and the signals of the last one, each 1 or 0.
+#[repr(C)]
 pub struct Reported {
     pub reported: u32,
     pub hsync: u32,

@@ -5,6 +5,7 @@ ghost use Rattle.plain.specs.Numbers.{number, nothing, refusedBy};
 use refusals::Refusal;
 
 // A refusal's number and place; both 0 where there is none.
+#[repr(C)]
 pub struct Refused {
     pub number: u32,
     pub place: u32,

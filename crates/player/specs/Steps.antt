@@ -66,8 +66,7 @@ stepAnswer left came text =
       session = left .0;
       next = left .1;
       text = text;
-      number = came .refusal .number;
-      place = came .refusal .place;
+      refusal = came .refusal;
       came = came .came;
     }
 

@@ -31,8 +31,7 @@ pub struct Stepped {
     pub session: Session,
     pub next: usize,
     pub text: usize,
-    pub number: u32,
-    pub place: u32,
+    pub refusal: Refused,
     pub came: u32,
 }
 
@@ -168,8 +167,7 @@ pub extern "C" fn bulitampaw_step(
             session,
             next: place,
             text: 0,
-            number: refusal.number,
-            place: refusal.place,
+            refusal,
             came: 0,
         };
     }
@@ -193,8 +191,7 @@ pub extern "C" fn bulitampaw_step(
         session: next,
         next: stepped.place,
         text: put,
-        number: refusal.number,
-        place: refusal.place,
+        refusal,
         came: came.came,
     }
 }

@@ -29,7 +29,7 @@ same-length c = search needs
 returns : tie.Need-returns
 unfolding dottedInNumbers
 returns c =
-    rw (c .before .in-numbers .ensures, c .before .before .report-of-dot .ensures, c .before .before .before .of-dot .ensures)
+    rw (c .in-numbers .ensures, c .before .report-of-dot .ensures, c .before .before .of-dot .ensures)
     (ap (λ (all : Chip × Outcome Numbered Signals). (dotsAnswer (all .0 .0) (refusalOf (all .1)) (reportOfDot (all .1)), all .0 .1)) (c .before .before .before .before .before .before .dot .ensures))
 
 pub bulitampaw-dot-spec : {M : Type 1} → statement M

@@ -29,7 +29,7 @@ same-length c = search needs
 returns : tie.Need-returns
 unfolding ranInNumbers
 returns c =
-    rw (c .before .in-numbers .ensures, c .before .before .report-of-dots .ensures, c .before .before .before .of-dots .ensures)
+    rw (c .in-numbers .ensures, c .before .report-of-dots .ensures, c .before .before .of-dots .ensures)
     (ap (λ (all : Chip × Outcome Numbered Report). (dotsAnswer (all .0 .0) (refusalOf (all .1)) (reportOfDots (all .1)), all .0 .1)) (c .before .before .before .before .before .before .dots .ensures))
 
 pub bulitampaw-dots-spec : {M : Type 1} → statement M

@@ -22,7 +22,7 @@ same-length c = search needs
 returns : tie.Need-returns
 unfolding drawnInNumbers
 returns c =
-    rw (c .before .of-line .ensures)
+    rw (c .of-line .ensures)
     (ap (λ (all : (State × List ℕ) × Outcome Numbered (Unit {0})). (lineAnswer (all .0 .0) (all .1), all .0 .1)) (c .before .before .before .before .draw .ensures))
 
 pub bulitampaw-line-spec : {M : Type 1} → statement M

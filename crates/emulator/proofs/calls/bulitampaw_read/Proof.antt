@@ -21,7 +21,7 @@ word-of-requires c κs = search needs
 returns : tie.Need-returns
 unfolding readInNumbers
 returns c =
-    rw (c .before .before .of-read .ensures, c .before .word-of .ensures)
+    rw (c .before .of-read .ensures, c .word-of .ensures)
     (ap (λ (all : Chip × Outcome Numbered ℕ). readAnswer (all .0 .0) (all .1)) (c .before .before .before .read .ensures))
 
 pub bulitampaw-read-spec : {M : Type 1} → statement M

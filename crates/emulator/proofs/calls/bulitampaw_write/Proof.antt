@@ -20,7 +20,7 @@ same-length c = search needs
 returns : tie.Need-returns
 unfolding writtenInNumbers
 returns c =
-    rw (c .before .of-write .ensures)
+    rw (c .of-write .ensures)
     (ap (λ (all : Chip × Outcome Numbered (Unit {0})). (writeAnswer (all .0 .0) (all .1), all .0 .1)) (c .before .before .before .before .write .ensures))
 
 pub bulitampaw-write-spec : {M : Type 1} → statement M
