@@ -58,10 +58,9 @@ fn compare_all(pair: &mut Pair, numbers: &mut Numbers) -> Result<(), String> {
     for (what, vector) in &vectors {
         vector(pair).map_err(|difference| format!("{what}: {difference}"))?;
     }
-    println!("chip from Rust: {} vectors alike", vectors.len());
-    let by_hand = pair.tally.least();
+    println!("chip from Rust: {} vectors alike, {}", vectors.len(), std::mem::take(&mut pair.tally));
     let mut sequences = 0;
-    while pair.tally.least() < by_hand + CALLS {
+    while pair.tally.least() < CALLS {
         let sequence = draw::sequence(numbers);
         sequence.run(pair).map_err(|_| smallest(sequence))?;
         sequences += 1;

@@ -1,4 +1,4 @@
-/* Rounds of foreign input for so many seconds of the processor, from a seed and from a round on: main SECONDS SEED ROUND FILE.. */
+/* Rounds of foreign input for so many seconds of the processor, from a seed and a round on: main SECONDS SEED ROUND FILE.. */
 #include <inttypes.h>
 #include <signal.h>
 #include <stdio.h>

@@ -5,6 +5,7 @@ use std::ops::Range;
 use crate::case::Case;
 use crate::model::beam::Position;
 use crate::model::queue::Queue;
+use crate::model::registers::STORE_WORDS;
 use crate::pair::{Difference, Pair};
 
 /// The difference of a case that still shows one: plainer where that will do, and short.
@@ -67,11 +68,20 @@ fn size(case: &Case) -> usize {
     let bytes = table.iter().chain(normal).chain(overlay).filter(|&&byte| byte != 0).count();
     let bits = state.control[0].count_ones() as usize;
     let numbers = state.at.x as usize + state.at.y as usize + state.queue.waiting as usize;
-    words + bytes + bits + numbers + store.len() + table.len() + normal.len() + overlay.len() + output.len()
+    words
+        + bytes
+        + bits
+        + numbers
+        + store.len().abs_diff(STORE_WORDS)
+        + table.len()
+        + normal.len()
+        + overlay.len()
+        + output.len()
 }
 
 /// Ways to make a case plainer.
-const PLAINER: [fn(&mut Case); 16] = [
+const PLAINER: [fn(&mut Case); 17] = [
+    |case| case.store.resize(STORE_WORDS, 0),
     |case| case.output.fill(0),
     |case| case.state.queue = Queue::EMPTY,
     |case| case.state.at = Position { x: 0, y: 0 },
