@@ -168,7 +168,8 @@ bulitampaw_read_back bulitampaw_read(bulitampaw_state state, const uint32_t *sto
 /* One dot: reports the signals at the position, applies the oldest colour write if blanked, and moves. Refused by 11 or 5. */
 bulitampaw_dotted bulitampaw_dot(bulitampaw_state state, uint32_t *store, size_t store_length);
 
-/* So many dots, one after the other; of none nothing is reported. Refused by 11 or 5. */
+/* So many dots, one after the other; of none nothing is reported. Refused by 11 or 5.
+   The time goes by lines and not by dots, except where colour writes wait for a blank window that the beam never meets: there it is some nanoseconds a dot. */
 bulitampaw_dotted bulitampaw_dots(bulitampaw_state state, uint32_t *store, size_t store_length, uint32_t count);
 
 /* Draws line y: the first words of the output, as many as the active width, become its colours, and the words past them stay.
@@ -186,9 +187,11 @@ bulitampaw_session bulitampaw_fresh_session(void);
 
 /* Runs the record at a place of a session file's bytes, on the lent store, table, rows and output, and puts its text, without a closing
    zero byte, at the front of the text. The next step goes on at the place that comes back. A last other than 0 says that the file ends with these bytes.
-   Where it comes to BULITAMPAW_CAME_MORE nothing was done: lend the bytes from that place on again, with more behind them or with last set.
-   Refused by 11, where the session holds more than there is room for, or by 5 at the lowest place. Such a refusal is the call's and no line of
-   the listing; what a record is refused for stands in the text and in the answer. */
+   A record that is not whole is waited for, unless the file ends: the step then comes to BULITAMPAW_CAME_MORE and did nothing. Lend the bytes from the same
+   place on again, with more behind them, or with last set. Only 12 is told of such a record at once; 14 and 13 may depend on what follows.
+   Refused by 11 where the session says that more of table or rows is there than fits their rooms, then by 5 at the lowest place. Such a refusal is the call's
+   and no line of the listing. What a record is refused for, 11 for a bad state of the chip too, stands in the text and in the answer.
+   A run is over with BULITAMPAW_CAME_END, BULITAMPAW_CAME_STOPPED and a refused call. */
 bulitampaw_stepped bulitampaw_step(bulitampaw_session session, const uint8_t *bytes, size_t length, size_t place, uint32_t last,
     uint32_t *store, size_t store_length, uint8_t *table, size_t table_length, uint8_t *normal, size_t normal_length,
     uint8_t *overlay, size_t overlay_length, uint32_t *output, size_t output_length, uint8_t *text, size_t text_length);
