@@ -7,15 +7,16 @@ use Rattle.rules.specs.Faults.{Numbered}
 use Rattle.chip.specs.Call.{Chip}
 use Rattle.chip.specs.declared.state.State.{State}
 use Rattle.listing.specs.Text.{Listed}
-use Rattle.session.specs.Record.{listed, entryOf}
-use Rattle.session.specs.Inner.{withState, askedIn}
+use Rattle.session.specs.Record.{Came, listed, entryOf}
+use Rattle.session.specs.Inner.{withState, counted, listedIn, askedIn}
 use Rattle.session.specs.declared.session.Session.{Session}
 
 -- the parts that a call left and answered are what is asked for
 pub asked-by : {A : Type 0} (session : Session) (entry : Listed) (state : State) (words : List ℕ) (answer : Outcome Numbered A) (after : Chip × Outcome Numbered A)
-    {next : Session} {shown : Listed}
-    → next ≡ withState session state → ((state, words), answer) ≡ after → shown ≡ entryOf entry answer
-    → ((next, words), ok (listed shown)) ≡ askedIn session entry after
-asked-by {A} session entry state words answer after next-is after-is shown-is =
-    ap₂ (λ (next : Session) (shown : Listed). ((next, words), ok (listed shown))) next-is shown-is
+    {next : Session} {shown : Listed} {left : Session × Outcome Numbered Came}
+    → left ≡ listedIn next shown → next ≡ withState session state → ((state, words), answer) ≡ after → shown ≡ entryOf entry answer
+    → ((left .0, words), left .1) ≡ askedIn session entry after
+asked-by {A} session entry state words answer after left-is next-is after-is shown-is =
+    ap (λ (left : Session × Outcome Numbered Came). ((left .0, words), left .1)) left-is
+    ∙ ap₂ (λ (next : Session) (shown : Listed). ((counted next, words), ok (listed shown))) next-is shown-is
     ∙ ap (λ (after : Chip × Outcome Numbered A). askedIn session entry after) after-is

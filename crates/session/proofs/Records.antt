@@ -16,7 +16,7 @@ use Rattle.line.specs.Cells.{lentOf}
 use Rattle.line.specs.Drawn.{drawn}
 use Rattle.session.specs.Record.{Came, listed, ended, entryOf, atPosition}
 use Rattle.session.specs.Lent.{Rooms, roomsOf, heldIn}
-use Rattle.session.specs.Inner.{withCounts, askedIn, Within, actedIn}
+use Rattle.session.specs.Inner.{withCounts, counted, askedIn, Within, actedIn}
 use Rattle.session.specs.declared.session.Session.{Session}
 use Rattle.session.proofs.Rooms.{back, back-chip, back-line, back-table, back-normal, back-overlay}
 
@@ -59,7 +59,7 @@ module _ (session : Session) (rooms : Rooms) (body : List ℕ) (within : Within 
   -- table bytes
   pub acts-table :
       come-to (listed done) (
-        withCounts session (session .table + length body) (session .normal) (session .overlay),
+        counted (withCounts session (session .table + length body) (session .normal) (session .overlay)),
         roomsOf (rooms .store) (paste (rooms .table) (session .table) body (length body)) (rooms .normal) (rooms .overlay) (rooms .output),
       )
       ≡ actedIn session rooms Table body
@@ -69,7 +69,7 @@ module _ (session : Session) (rooms : Rooms) (body : List ℕ) (within : Within 
   -- a normal row
   pub acts-normal :
       come-to (listed done) (
-        withCounts session (session .table) (length body) (session .overlay),
+        counted (withCounts session (session .table) (length body) (session .overlay)),
         roomsOf (rooms .store) (rooms .table) (paste (rooms .normal) 0 body (length body)) (rooms .overlay) (rooms .output),
       )
       ≡ actedIn session rooms Normal body
@@ -79,7 +79,7 @@ module _ (session : Session) (rooms : Rooms) (body : List ℕ) (within : Within 
   -- an overlay row
   pub acts-overlay :
       come-to (listed done) (
-        withCounts session (session .table) (session .normal) (length body),
+        counted (withCounts session (session .table) (session .normal) (length body)),
         roomsOf (rooms .store) (rooms .table) (rooms .normal) (paste (rooms .overlay) 0 body (length body)) (rooms .output),
       )
       ≡ actedIn session rooms Overlay body

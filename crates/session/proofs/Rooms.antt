@@ -8,7 +8,7 @@ use lib.Seq.{paste, length-take-le, take-length}
 use Rattle.chip.specs.Call.{Chip}
 use Rattle.session.specs.Held.{withChip, withTable, withNormal, withOverlay, withLine}
 use Rattle.session.specs.Lent.{Rooms, roomsOf, heldIn, laid, leftIn}
-use Rattle.session.specs.Inner.{withState, withCounts, Within}
+use Rattle.session.specs.Inner.{withState, withCounts, counted, Within}
 use Rattle.session.specs.declared.session.Session.{Session}
 
 -- bytes of a room at its front change nothing
@@ -61,20 +61,20 @@ module _ (session : Session) (rooms : Rooms) (within : Within session rooms) whe
   -- with another chip
   pub back-chip : (chip : Chip)
       → leftIn rooms (withChip (heldIn session rooms) chip)
-      ≡ (withState session (chip .0), roomsOf (chip .1) (rooms .table) (rooms .normal) (rooms .overlay) (rooms .output))
+      ≡ (counted (withState session (chip .0)), roomsOf (chip .1) (rooms .table) (rooms .normal) (rooms .overlay) (rooms .output))
   back-chip chip = rw (table-back, normal-back, overlay-back, table-count, normal-count, overlay-count) refl
 
   -- with another output
   pub back-line : (chip : Chip) (output : List ℕ)
       → leftIn rooms (withLine (heldIn session rooms) chip output)
-      ≡ (withState session (chip .0), roomsOf (chip .1) (rooms .table) (rooms .normal) (rooms .overlay) output)
+      ≡ (counted (withState session (chip .0)), roomsOf (chip .1) (rooms .table) (rooms .normal) (rooms .overlay) output)
   back-line chip output = rw (table-back, normal-back, overlay-back, table-count, normal-count, overlay-count) refl
 
   -- with table bytes appended
   pub back-table : (bytes : List ℕ)
       → leftIn rooms (withTable (heldIn session rooms) (take (session .table) (rooms .table) ++ bytes))
       ≡ (
-        withCounts session (session .table + length bytes) (session .normal) (session .overlay),
+        counted (withCounts session (session .table + length bytes) (session .normal) (session .overlay)),
         roomsOf (rooms .store) (paste (rooms .table) (session .table) bytes (length bytes)) (rooms .normal) (rooms .overlay) (rooms .output),
       )
   back-table bytes =
@@ -91,7 +91,7 @@ module _ (session : Session) (rooms : Rooms) (within : Within session rooms) whe
   pub back-normal : (bytes : List ℕ)
       → leftIn rooms (withNormal (heldIn session rooms) bytes)
       ≡ (
-        withCounts session (session .table) (length bytes) (session .overlay),
+        counted (withCounts session (session .table) (length bytes) (session .overlay)),
         roomsOf (rooms .store) (rooms .table) (paste (rooms .normal) 0 bytes (length bytes)) (rooms .overlay) (rooms .output),
       )
   back-normal bytes = rw (laid-anew (rooms .normal) bytes, table-back, overlay-back, table-count, overlay-count) refl
@@ -100,7 +100,7 @@ module _ (session : Session) (rooms : Rooms) (within : Within session rooms) whe
   pub back-overlay : (bytes : List ℕ)
       → leftIn rooms (withOverlay (heldIn session rooms) bytes)
       ≡ (
-        withCounts session (session .table) (session .normal) (length bytes),
+        counted (withCounts session (session .table) (session .normal) (length bytes)),
         roomsOf (rooms .store) (rooms .table) (rooms .normal) (paste (rooms .overlay) 0 bytes (length bytes)) (rooms .output),
       )
   back-overlay bytes = rw (laid-anew (rooms .overlay) bytes, table-back, normal-back, table-count, normal-count) refl

@@ -173,11 +173,13 @@ module _ (session : Session) (rooms : Rooms) (bytes : List ℕ) (place : ℕ) (l
         (step-by (Refused refusal) is
         ∙ ap (λ (left : Left). (left, ok (stopped (numbered refusal)))) (nothing-taken (within (fitted session rooms passed))))
 
-    -- a record
+    -- a record, whose body was lent so
     pub step-acts : (which : Record) (count : ℕ) → found (judgedBy session rooms last) (drop place bytes) ≡ Is which count
-        → {left : (Session × Rooms) × Outcome Numbered Came} → left ≡ actedIn session rooms which (bodyOf (drop place bytes))
+        → (body : List ℕ) → body ≡ bodyOf (drop place bytes)
+        → {left : (Session × Rooms) × Outcome Numbered Came} → left ≡ actedIn session rooms which body
         → (left-after (3 + count) (left .0), left .1) ≡ sessionStep session rooms bytes place last
     unfolding actedIn
-    step-acts which count is left-is =
-        ap (λ (left : (Session × Rooms) × Outcome Numbered Came). (left-after (3 + count) (left .0), left .1)) left-is
+    step-acts which count is body body-is left-is =
+        ap (λ (left : (Session × Rooms) × Outcome Numbered Came). (left-after (3 + count) (left .0), left .1))
+        (left-is ∙ ap (λ (body : List ℕ). actedIn session rooms which body) body-is)
         ∙ sym (step-by (Is which count) is)

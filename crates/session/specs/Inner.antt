@@ -16,7 +16,29 @@ use Rattle.session.specs.Record.{Came, listed, entryOf, acted}
 use Rattle.session.specs.Lent.{Rooms, heldIn, leftIn}
 use Rattle.session.specs.declared.session.Session.{Session}
 
--- after a record
+-- with this state
+abbrev pub withState : Session → State → Session
+withState session state =
+    record {
+      state = state;
+      table = session .table;
+      normal = session .normal;
+      overlay = session .overlay;
+      records = session .records;
+    }
+
+-- with so many bytes of table and rows
+abbrev pub withCounts : Session → ℕ → ℕ → ℕ → Session
+withCounts session table normal overlay =
+    record {
+      state = session .state;
+      table = table;
+      normal = normal;
+      overlay = overlay;
+      records = session .records;
+    }
+
+-- after one more record
 abbrev pub counted : Session → Session
 counted session =
     record {
@@ -27,31 +49,13 @@ counted session =
       records = session .records + 1;
     }
 
--- after a record, with this state
-abbrev pub withState : Session → State → Session
-withState session state =
-    record {
-      state = state;
-      table = session .table;
-      normal = session .normal;
-      overlay = session .overlay;
-      records = session .records + 1;
-    }
-
--- after a record, with so many bytes of table and rows
-abbrev pub withCounts : Session → ℕ → ℕ → ℕ → Session
-withCounts session table normal overlay =
-    record {
-      state = session .state;
-      table = table;
-      normal = normal;
-      overlay = overlay;
-      records = session .records + 1;
-    }
+-- after one more record, which lists this entry
+abbrev pub listedIn : Session → Listed → Session × Outcome Numbered Came
+listedIn session entry = (counted session, ok (listed entry))
 
 -- after a record that asked the chip: what a call left and answered becomes the session's, with this entry where it is done
 abbrev pub askedIn : {A : Type 0} → Session → Listed → Chip × Outcome Numbered A → (Session × List ℕ) × Outcome Numbered Came
-askedIn session entry after = ((withState session (after .0 .0), after .0 .1), ok (listed (entryOf entry (after .1))))
+askedIn session entry after = ((counted (withState session (after .0 .0)), after .0 .1), ok (listed (entryOf entry (after .1))))
 
 -- what is held lies within the rooms
 pub record Within (session : Session) (rooms : Rooms) : Type 0 where

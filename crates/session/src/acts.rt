@@ -15,7 +15,7 @@ ghost use Rattle.line.specs.Drawn.{told as toldOfLine};
 ghost use Rattle.session.specs.Record.{entryOf, atPosition};
 ghost use Rattle.session.specs.Lent.{roomsOf};
 ghost use Rattle.session.specs.Step.{told};
-ghost use Rattle.session.specs.Inner.{counted, withState, withCounts, askedIn, Within, Fits, actedIn};
+ghost use Rattle.session.specs.Inner.{withState, withCounts, listedIn, askedIn, Within, Fits, actedIn};
 use crate::keep::keep;
 use crate::session::Session;
 use crate::step::Answer;
@@ -71,35 +71,35 @@ fn entry_of_line(answer: line::draw::Answer, y: u32, width: usize) -> Entry
 }
 
 impl Session {
-    // One more record.
-    fn counted(mut self) -> Self
-        requires { ⌜ self .records < 1000000 ⌝ }
-        ensures { λ r. ⌜ r ≡ counted self ⌝ }
+    // With this state.
+    fn with_state(mut self, state: State) -> Self
+        ensures { λ r. ⌜ r ≡ withState self state ⌝ }
     {
-        self.records += 1;
+        self.state = state;
         self
     }
 
-    // After a record, with this state.
-    fn with_state(self, state: State) -> Self
+    // After one more record, which lists this entry.
+    fn listed(mut self, entry: Entry) -> Acted
         requires { ⌜ self .records < 1000000 ⌝ }
-        ensures { λ r. ⌜ r ≡ withState self state ⌝ }
+        ensures { λ r. ⌜ (r .session, told (r .answer)) ≡ listedIn self (said entry) ⌝ }
     {
-        let mut next = self.counted();
-        next.state = state;
-        next
+        self.records += 1;
+        Acted {
+            session: self,
+            answer: Answer::Listed(entry),
+        }
     }
 
-    // After a record, with so many bytes of table and rows.
-    fn with_counts(self, table: usize, normal: usize, overlay: usize) -> Self
+    // After one more record, which left so many bytes of table and rows.
+    fn holding(mut self, table: usize, normal: usize, overlay: usize) -> Acted
         requires { ⌜ self .records < 1000000 ⌝ }
-        ensures { λ r. ⌜ r ≡ withCounts self table normal overlay ⌝ }
+        ensures { λ r. ⌜ (r .session, told (r .answer)) ≡ listedIn (withCounts self table normal overlay) done ⌝ }
     {
-        let mut next = self.counted();
-        next.table = table;
-        next.normal = normal;
-        next.overlay = overlay;
-        next
+        self.table = table;
+        self.normal = normal;
+        self.overlay = overlay;
+        self.listed(Entry::Ok)
     }
 
     // A write.
@@ -111,10 +111,7 @@ impl Session {
         let written = state.write(store, address, value);
         let next = written.state;
         let answer = written.answer;
-        Acted {
-            session: self.with_state(next),
-            answer: Answer::Listed(entry_of_write(answer)),
-        }
+        self.with_state(next).listed(entry_of_write(answer))
     }
 
     // Some dots.
@@ -127,10 +124,7 @@ impl Session {
         let next = ran.state;
         let answer = ran.answer;
         let at = next.at;
-        Acted {
-            session: self.with_state(next),
-            answer: Answer::Listed(entry_of_dots(answer, at)),
-        }
+        self.with_state(next).listed(entry_of_dots(answer, at))
     }
 
     // A line.
@@ -162,10 +156,8 @@ impl Session {
         );
         let next = drawn.state;
         let answer = drawn.answer;
-        Acted {
-            session: self.with_state(next),
-            answer: Answer::Listed(entry_of_line(answer, y, width(state))),
-        }
+        self.with_state(next)
+            .listed(entry_of_line(answer, y, width(state)))
     }
 
     // A record with this body.
@@ -194,24 +186,15 @@ impl Session {
             Record::Table => {
                 let held = self.table;
                 keep(table, held, body);
-                Acted {
-                    session: self.with_counts(held + body.len(), self.normal, self.overlay),
-                    answer: Answer::Listed(Entry::Ok),
-                }
+                self.holding(held + body.len(), self.normal, self.overlay)
             }
             Record::Normal => {
                 keep(normal, 0, body);
-                Acted {
-                    session: self.with_counts(self.table, body.len(), self.overlay),
-                    answer: Answer::Listed(Entry::Ok),
-                }
+                self.holding(self.table, body.len(), self.overlay)
             }
             Record::Overlay => {
                 keep(overlay, 0, body);
-                Acted {
-                    session: self.with_counts(self.table, self.normal, body.len()),
-                    answer: Answer::Listed(Entry::Ok),
-                }
+                self.holding(self.table, self.normal, body.len())
             }
             Record::Line(y) => self.line(y, store, table, normal, overlay, output),
         }

@@ -1,7 +1,6 @@
 -- `session::step::step` meets its contract: its first test, what stands at the place, and what the record does. Assumes nothing.
-use Prim.Native.Nat.{ℕ, _+_, _≤_}
-use mathlib.Core.Path.{_≡_, sym, ap, subst, _∙_}
-use mathlib.Core.List.{List}
+use Prim.Native.Nat.{_+_, _≤_}
+use mathlib.Core.Path.{_≡_, sym, subst, _∙_}
 use native.Mathlib.Nat.{add-assoc}
 use borrow.Author.Needs.{needs}
 use denote.Ref.{now}
@@ -12,7 +11,7 @@ use Rattle.records.proofs.Accepted.{found-accepted}
 use Rattle.records.proofs.Limits.{numbered-below}
 use Rattle.session.specs.Lent.{roomsOf}
 use Rattle.session.specs.Step.{stepFaults}
-use Rattle.session.specs.Inner.{fitTold, actedIn}
+use Rattle.session.specs.Inner.{fitTold}
 use Rattle.session.proofs.Stepping.{judgedBy, ends-within, body-part, body-long, fitted, within, fits, step-refused, step-waits, step-stops, step-acts}
 use Rattle.session.proofs.step.step.Statement.{statement}
 use Rattle.session.proofs.step.step.Tie as tie
@@ -122,8 +121,9 @@ returns-2 c =
     let accepted = found-accepted (judgedBy (given .session) rooms (given .last)) unread is in
     let passed = sym (subst (λ (answer : Fit). fitTold answer ≡ verdict (stepFaults (given .session) rooms)) (asked .before .enum-told .given .1) (tested .fit .ensures)) in
     rw (add-assoc (given .place) 3 count)
-    (step-acts (given .session) rooms (now (given .bytes)) (given .place) (given .last) passed which count is
-    (c .before .before .before .before .before .before .before .before .before .before .before .act .ensures ∙ ap (λ (body : List ℕ). actedIn (given .session) rooms which body) (body-part (now (given .bytes)) (given .place) count (accepted .length-is))))
+    (step-acts (given .session) rooms (now (given .bytes)) (given .place) (given .last) passed which count is _
+    (body-part (now (given .bytes)) (given .place) count (accepted .length-is))
+    (c .before .before .before .before .before .before .before .before .before .before .before .act .ensures))
 
 returns-3 : tie.Need-returns-3
 returns-3 c =

@@ -5,11 +5,10 @@ use mathlib.Core.List.{List}
 use native.Mathlib.Nat.{zero-add}
 use borrow.Author.Needs.{needs}
 use denote.Ref.{now}
-use Rattle.rules.specs.Rule.{Outcome, ok}
+use Rattle.rules.specs.Rule.{Outcome}
 use Rattle.rules.specs.Faults.{Numbered}
 use Rattle.records.specs.declared.record.Record.{Record}
-use Rattle.listing.specs.Text.{ok as done}
-use Rattle.session.specs.Record.{Came, listed}
+use Rattle.session.specs.Record.{Came}
 use Rattle.session.specs.Lent.{Rooms, roomsOf}
 use Rattle.session.specs.Inner.{Fits, actedIn}
 use Rattle.session.specs.declared.session.Session.{Session}
@@ -17,9 +16,9 @@ use Rattle.session.proofs.Records.{acts-end, acts-write, acts-dots, act
 use Rattle.session.proofs.session.Session.act.Statement.{statement}
 use Rattle.session.proofs.session.Session.act.Tie as tie
 
--- bytes that were kept list ok
-abbrev kept-in : Session → Rooms → (Session × Rooms) × Outcome Numbered Came
-kept-in next rooms = ((next, rooms), ok (listed done))
+-- a session and what a record came to, beside the rooms
+abbrev left-in : Session × Outcome Numbered Came → Rooms → (Session × Rooms) × Outcome Numbered Came
+left-in left rooms = ((left .0, rooms), left .1)
 
 enum-told : tie.Need-enum-told
 enum-told c = search needs
@@ -46,11 +45,11 @@ keep-requires c κs =
     let rooms = roomsOf (now (given .store)) (now (given .table)) (now (given .normal)) (now (given .overlay)) (now (given .output)) in
     subst (λ (which : Record). Fits (given .self) rooms which (now (given .body))) (c .before .enum-told2 .given .1) (start .pre .1 .1)
 
-add-with-counts : tie.Need-add-with-counts
-add-with-counts c = search needs
+add-holding : tie.Need-add-holding
+add-holding c = search needs
 
-with-counts-requires : tie.Need-with-counts-requires
-with-counts-requires c κs = search needs
+holding-requires : tie.Need-holding-requires
+holding-requires c κs = search needs
 
 enum-told-3 : tie.Need-enum-told-3
 enum-told-3 c = search needs
@@ -62,8 +61,8 @@ keep-requires-2 c κs =
     let rooms = roomsOf (now (given .store)) (now (given .table)) (now (given .normal)) (now (given .overlay)) (now (given .output)) in
     rw zero-add (subst (λ (which : Record). Fits (given .self) rooms which (now (given .body))) (c .before .enum-told3 .given .1) (start .pre .1 .1))
 
-with-counts-requires-2 : tie.Need-with-counts-requires-2
-with-counts-requires-2 c κs = search needs
+holding-requires-2 : tie.Need-holding-requires-2
+holding-requires-2 c κs = search needs
 
 enum-told-4 : tie.Need-enum-told-4
 enum-told-4 c = search needs
@@ -75,8 +74,8 @@ keep-requires-3 c κs =
     let rooms = roomsOf (now (given .store)) (now (given .table)) (now (given .normal)) (now (given .overlay)) (now (given .output)) in
     rw zero-add (subst (λ (which : Record). Fits (given .self) rooms which (now (given .body))) (c .before .enum-told4 .given .1) (start .pre .1 .1))
 
-with-counts-requires-3 : tie.Need-with-counts-requires-3
-with-counts-requires-3 c κs = search needs
+holding-requires-3 : tie.Need-holding-requires-3
+holding-requires-3 c κs = search needs
 
 enum-known-which-3 : tie.Need-enum-known-which-3
 enum-known-which-3 c = search needs
@@ -124,7 +123,7 @@ returns-4 c =
     let start = c .before .before .before .before .before .before .before .before .before .before .before .before .before in
     let given = start .args in
     let rooms = roomsOf (now (given .store)) (now (given .table)) (now (given .normal)) (now (given .overlay)) (now (given .output)) in
-    ap₂ (λ (next : Session) (kept : List ℕ). kept-in next (roomsOf (now (given .store)) kept (now (given .normal)) (now (given .overlay)) (now (given .output)))) (c .with-counts .ensures) (c .before .before .before .keep .ensures)
+    ap₂ (λ (left : Session × Outcome Numbered Came) (kept : List ℕ). left-in left (roomsOf (now (given .store)) kept (now (given .normal)) (now (given .overlay)) (now (given .output)))) (c .holding .ensures) (c .before .before .before .keep .ensures)
     ∙ acts-table (given .self) rooms (now (given .body)) (start .pre .1 .0)
     ∙ ap (λ (which : Record). actedIn (given .self) rooms which (now (given .body))) (sym (c .before .before .before .before .before .enum-told2 .given .1))
 
@@ -136,7 +135,7 @@ returns-5 c =
     let start = c .before .before .before .before .before .before .before .before .before .before .before .before .before in
     let given = start .args in
     let rooms = roomsOf (now (given .store)) (now (given .table)) (now (given .normal)) (now (given .overlay)) (now (given .output)) in
-    ap₂ (λ (next : Session) (kept : List ℕ). kept-in next (roomsOf (now (given .store)) (now (given .table)) kept (now (given .overlay)) (now (given .output)))) (c .with-counts2 .ensures) (c .before .before .before .keep2 .ensures)
+    ap₂ (λ (left : Session × Outcome Numbered Came) (kept : List ℕ). left-in left (roomsOf (now (given .store)) (now (given .table)) kept (now (given .overlay)) (now (given .output)))) (c .holding2 .ensures) (c .before .before .before .keep2 .ensures)
     ∙ acts-normal (given .self) rooms (now (given .body)) (start .pre .1 .0)
     ∙ ap (λ (which : Record). actedIn (given .self) rooms which (now (given .body))) (sym (c .before .before .before .before .before .enum-told3 .given .1))
 
@@ -148,7 +147,7 @@ returns-6 c =
     let start = c .before .before .before .before .before .before .before .before .before .before .before .before .before in
     let given = start .args in
     let rooms = roomsOf (now (given .store)) (now (given .table)) (now (given .normal)) (now (given .overlay)) (now (given .output)) in
-    ap₂ (λ (next : Session) (kept : List ℕ). kept-in next (roomsOf (now (given .store)) (now (given .table)) (now (given .normal)) kept (now (given .output)))) (c .with-counts3 .ensures) (c .before .before .before .keep3 .ensures)
+    ap₂ (λ (left : Session × Outcome Numbered Came) (kept : List ℕ). left-in left (roomsOf (now (given .store)) (now (given .table)) (now (given .normal)) kept (now (given .output)))) (c .holding3 .ensures) (c .before .before .before .keep3 .ensures)
     ∙ acts-overlay (given .self) rooms (now (given .body)) (start .pre .1 .0)
     ∙ ap (λ (which : Record). actedIn (given .self) rooms which (now (given .body))) (sym (c .before .before .before .before .before .enum-told4 .given .1))
 
@@ -187,14 +186,14 @@ act-spec =
     dots-requires
     enum-told-2
     keep-requires
-    add-with-counts
-    with-counts-requires
+    add-holding
+    holding-requires
     enum-told-3
     keep-requires-2
-    with-counts-requires-2
+    holding-requires-2
     enum-told-4
     keep-requires-3
-    with-counts-requires-3
+    holding-requires-3
     enum-known-which-3
     line-requires
     returns

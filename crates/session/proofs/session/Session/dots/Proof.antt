@@ -21,19 +21,22 @@ with-state-requires c κs = search needs
 entry-of-dots-requires : tie.Need-entry-of-dots-requires
 entry-of-dots-requires c κs = search needs
 
+listed-requires : tie.Need-listed-requires
+listed-requires c κs = rw (c .before .with-state .ensures) (c .before .before .before .before .before .before .before .before .before .before .pre)
+
 same-length : tie.Need-same-length
 same-length c = search needs
 
 returns : tie.Need-returns
 returns c =
-    let call = c .before .before .before .before .before .before in
+    let call = c .before .before .before .before .before .before .before in
     let given = call .before .before .before .before .args in
     let after = ran (given .self .state, now (given .store)) (given .count) in
     asked-by (given .self) (atPosition (after .0 .0 .at)) (call .dots .result .state) (call .dots .last .1 .0) (told (call .dots .result .answer)) after
-    (c .before .with-state .ensures) (call .dots .ensures)
-    (c .entry-of-dots .ensures ∙ ap (λ (left : Chip × Outcome Numbered Report). entryOf (atPosition (left .0 .0 .at)) (told (call .dots .result .answer))) (call .dots .ensures))
+    (c .listed .ensures) (c .before .before .with-state .ensures) (call .dots .ensures)
+    (c .before .entry-of-dots .ensures ∙ ap (λ (left : Chip × Outcome Numbered Report). entryOf (atPosition (left .0 .0 .at)) (told (call .dots .result .answer))) (call .dots .ensures))
 
 pub dots-spec : {M : Type 1} → statement M
 dots-spec =
     tie.close
-    (tie.spec dots-requires with-state-requires entry-of-dots-requires same-length returns)
+    (tie.spec dots-requires with-state-requires entry-of-dots-requires listed-requires same-length returns)

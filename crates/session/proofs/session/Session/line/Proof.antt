@@ -53,19 +53,22 @@ width-requires c κs = search needs
 entry-of-line-requires : tie.Need-entry-of-line-requires
 entry-of-line-requires c κs = search needs
 
+listed-requires : tie.Need-listed-requires
+listed-requires c κs = rw (c .before .before .with-state .ensures) (c .before .before .before .before .before .before .before .before .before .before .before .before .before .before .before .before .before .pre .0)
+
 same-length : tie.Need-same-length
 same-length c = search needs
 
 returns : tie.Need-returns
 returns c =
-    let call = c .before .before .before .before .before .before in
+    let call = c .before .before .before .before .before .before .before in
     let given = call .before .before .before .before .before .before .before .before .before .before .before .args in
     let held = given .self in
     let after = drawn (held .state) (given .y) (lentOf (now (given .store)) (take (held .table) (now (given .table))) (take (held .normal) (now (given .normal))) (take (held .overlay) (now (given .overlay)))) (now (given .output)) in
     asked-by held (line (given .y) (controlsOf (held .state .control) .width)) (call .draw .result .state) (call .draw .last .1 .1 .1 .1 .1 .1 .0) (told (call .draw .result .answer)) after
-    (c .before .before .with-state .ensures)
+    (c .listed .ensures) (c .before .before .before .with-state .ensures)
     (rw (sub-zero (held .table), sub-zero (held .normal), sub-zero (held .overlay)) at (call .draw .ensures))
-    (c .entry-of-line .ensures ∙ ap (λ (width : ℕ). entryOf (line (given .y) width) (told (call .draw .result .answer))) (c .before .width .ensures))
+    (c .before .entry-of-line .ensures ∙ ap (λ (width : ℕ). entryOf (line (given .y) width) (told (call .draw .result .answer))) (c .before .before .width .ensures))
 
 pub line-spec : {M : Type 1} → statement M
 line-spec =
@@ -84,5 +87,6 @@ line-spec =
     with-state-requires
     width-requires
     entry-of-line-requires
+    listed-requires
     same-length
     returns)

@@ -16,17 +16,20 @@ with-state-requires c κs = search needs
 entry-of-write-requires : tie.Need-entry-of-write-requires
 entry-of-write-requires c κs = search needs
 
+listed-requires : tie.Need-listed-requires
+listed-requires c κs = rw (c .before .with-state .ensures) (c .before .before .before .before .before .before .before .before .before .pre)
+
 same-length : tie.Need-same-length
 same-length c = search needs
 
 returns : tie.Need-returns
 returns c =
-    let call = c .before .before .before .before .before in
+    let call = c .before .before .before .before .before .before in
     let given = call .before .before .before .before .args in
     asked-by (given .self) done (call .write .result .state) (call .write .last .1 .0) (told (call .write .result .answer)) (written (given .self .state, now (given .store)) (given .address) (given .value))
-    (c .before .with-state .ensures) (call .write .ensures) (c .entry-of-write .ensures)
+    (c .listed .ensures) (c .before .before .with-state .ensures) (call .write .ensures) (c .before .entry-of-write .ensures)
 
 pub write-spec : {M : Type 1} → statement M
 write-spec =
     tie.close
-    (tie.spec write-requires with-state-requires entry-of-write-requires same-length returns)
+    (tie.spec write-requires with-state-requires entry-of-write-requires listed-requires same-length returns)
