@@ -274,9 +274,14 @@ int main(int count, char **words)
     static chip c;
     FILE *picture;
     int y;
-    if (count != 2 || (picture = fopen(words[1], "wb")) == NULL) {
+    if (count != 2) {
         fprintf(stderr, "usage: frame PICTURE.ppm\n");
         return 2;
+    }
+    picture = fopen(words[1], "wb");
+    if (picture == NULL) {
+        perror(words[1]);
+        return 1;
     }
     c.state = bulitampaw_fresh();
     set_mode(&c);
@@ -289,7 +294,7 @@ int main(int count, char **words)
     for (y = 0; y < HEIGHT; y++) {
         draw_line(&c, y, picture);
     }
-    if (fclose(picture) != 0) {
+    if (fflush(picture) != 0 || ferror(picture) || fclose(picture) != 0) {
         perror(words[1]);
         return 1;
     }

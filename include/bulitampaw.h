@@ -1,11 +1,14 @@
 /* Bulitampaw: a model of the GBE display back end, for emulators written in C. Link libbulitampaw.a.
 
-   Each call is lent what it works on for as long as it runs, and keeps nothing of it. The state goes in and comes back by value; the
-   functions at the end, named bulitampaw_state_ and bulitampaw_session_, take a pointer to it instead and read more easily.
+   Each call is lent what it works on for as long as it runs, and keeps nothing of it: the caller holds state and memory, and there is nothing global.
+   The state goes in and comes back by value; the functions at the end, named bulitampaw_state_ and bulitampaw_session_, take a pointer
+   to it instead and read more easily.
 
-   In every answer the refusal's number 0 says that the call was done; any other is the number of why it was not, and its place stands beside it. A
-   refused call hands the state back as it was and leaves every word that it was lent. A call checks all it is given but the pointers: each must lead to as many
-   words or bytes as its length says, and what is lent to be changed overlaps nothing else. Where a length is 0 the pointer may be null. */
+   In every answer but a step's the refusal's number 0 says that the call was done; any other says why it was not, and its place stands beside it. A
+   refused call hands the state back as it was and leaves every word that it was lent. A step has its own rules, which stand there.
+
+   A call checks all it is given but the pointers: each must lead to as many words or bytes as its length says, and what is lent to be changed
+   overlaps nothing else. Where a length is 0 the pointer may be null. */
 #ifndef BULITAMPAW_H
 #define BULITAMPAW_H
 
@@ -24,8 +27,8 @@ enum {
     BULITAMPAW_STRAY_BITS = 3,      /* the value has bits that the register does not keep: the address */
     BULITAMPAW_QUEUE_FULL = 4,      /* a colour write while 64 wait: the address */
     BULITAMPAW_WRONG_LENGTH = 5,    /* something lent has a wrong length: one of the places below */
-    BULITAMPAW_NO_LINE = 6,         /* the line is below the active height: the line */
-    BULITAMPAW_NO_FRAME_ENTRY = 7,  /* no frame entry serves the line: the line */
+    BULITAMPAW_NO_LINE = 6,         /* y is the active height or more: y */
+    BULITAMPAW_NO_FRAME_ENTRY = 7,  /* no frame entry serves line y: y */
     BULITAMPAW_NO_LINE_ENTRY = 8,   /* no line entry serves a pixel: its x */
     BULITAMPAW_UNDEFINED_ENTRY = 9, /* a pixel's window entry is undefined: its x */
     BULITAMPAW_PAST_TOTAL = 10,     /* origin and size pass the total, either way: 0 */
@@ -45,31 +48,31 @@ enum {
     BULITAMPAW_TEXT = 6             /* a step's alone */
 };
 
-/* How long things are, in words of 32 bits or in bytes. */
+/* Addresses, and how long things are, in words of 32 bits or in bytes. Bits 31..24 of an address do not count. */
 enum {
-    BULITAMPAW_CONTROL_WORDS = 9,   /* that can be written; words 9 and 10 can only be read */
-    BULITAMPAW_QUEUE_SLOTS = 64,    /* colour writes that can wait */
-    BULITAMPAW_STORE_WORDS = 4963,  /* exactly these */
+    BULITAMPAW_CONTROL_AT = 0x000000,        /* words 0 to 10, of which 9 (room in the queue) and 10 (position) can only be read */
+    BULITAMPAW_WINDOW_ENTRIES_AT = 0x010000, /* 13 bits each */
+    BULITAMPAW_COLOUR_MAP_AT = 0x020000,     /* 24 bits each; writes wait in the queue */
+    BULITAMPAW_GAMMA_MAP_AT = 0x030000,      /* 24 bits each */
+    BULITAMPAW_CURSOR_GLYPH_AT = 0x040000,   /* 32 bits each */
+    BULITAMPAW_CURSOR_COLOURS_AT = 0x041000, /* 24 bits each */
+
+    BULITAMPAW_CONTROL_WORDS = 9,            /* that the state holds */
+    BULITAMPAW_QUEUE_SLOTS = 64,             /* colour writes that can wait */
+
+    BULITAMPAW_STORE_WORDS = 4963,           /* of the store exactly: these five blocks, one behind the other */
     BULITAMPAW_WINDOW_ENTRIES = 32,
     BULITAMPAW_COLOUR_MAP_WORDS = 4608,
     BULITAMPAW_GAMMA_MAP_WORDS = 256,
     BULITAMPAW_CURSOR_GLYPH_WORDS = 64,
     BULITAMPAW_CURSOR_COLOURS = 3,
-    BULITAMPAW_TABLE_BYTES = 65536, /* at most; of a step's room exactly, as of the three below */
+
+    BULITAMPAW_TABLE_BYTES = 65536,          /* the longest window-ID table, rows and line; a step's rooms have exactly these lengths */
     BULITAMPAW_NORMAL_BYTES = 8192,
     BULITAMPAW_OVERLAY_BYTES = 2048,
     BULITAMPAW_OUTPUT_WORDS = 2048,
-    BULITAMPAW_TEXT_BYTES = 14368   /* of a step's text at least */
-};
-
-/* The address at which each block of registers starts. Bits 31..24 of an address do not count. */
-enum {
-    BULITAMPAW_CONTROL_AT = 0x000000,         /* words 0 to 10, of which 9 (room in the queue) and 10 (position) can only be read */
-    BULITAMPAW_WINDOW_ENTRIES_AT = 0x010000,  /* 13 bits each */
-    BULITAMPAW_COLOUR_MAP_AT = 0x020000,      /* 24 bits each */
-    BULITAMPAW_GAMMA_MAP_AT = 0x030000,       /* 24 bits each */
-    BULITAMPAW_CURSOR_GLYPH_AT = 0x040000,    /* 32 bits each */
-    BULITAMPAW_CURSOR_COLOURS_AT = 0x041000   /* 24 bits each */
+    BULITAMPAW_TEXT_BYTES = 14368,           /* the room that a step's text needs at least */
+    BULITAMPAW_RECORD_BYTES = 65538          /* the longest record of a session file: a buffer of this length holds any */
 };
 
 /* Where the beam is. */
@@ -88,7 +91,8 @@ typedef struct {
     bulitampaw_waiting slots[BULITAMPAW_QUEUE_SLOTS];
 } bulitampaw_queue;
 
-/* All that the chip holds besides the store. */
+/* All that the chip holds besides the store. It keeps its rule where no control word has bits outside its fields, x and y are at most 4,095, at
+   most 64 writes wait, and each of these is to an entry below 4,608 and of 24 bits. Number 11 says that it doesn't. */
 typedef struct {
     uint32_t control[BULITAMPAW_CONTROL_WORDS];
     bulitampaw_position at;
@@ -140,14 +144,15 @@ typedef struct {
 
 /* What a step comes to. */
 enum {
-    BULITAMPAW_CAME_REFUSED = 0, /* nothing: the call was refused */
+    BULITAMPAW_CAME_REFUSED = 0, /* nothing: the call was refused, and all is as it was */
     BULITAMPAW_CAME_LISTED = 1,  /* a record was run, and its entry of the listing is the text; the refusal is the record's */
-    BULITAMPAW_CAME_END = 2,     /* the end record is reached */
-    BULITAMPAW_CAME_MORE = 3,    /* the bytes end within a record, and the file goes on */
+    BULITAMPAW_CAME_END = 2,     /* the end record: the run is over, and what stands behind it is not for it */
+    BULITAMPAW_CAME_MORE = 3,    /* the bytes end before or within a record, and the file goes on: nothing was done */
     BULITAMPAW_CAME_STOPPED = 4  /* a fault of the file, 12 to 14, which the text lists: the run is over */
 };
 
-/* What a step answers: where the next record starts, how many bytes of text it put, and what it comes to. */
+/* What a step answers: where the next record starts, how many bytes of text it put, the refusal that it lists or is answered by, and what it comes
+   to. Number 0 says that there is no refusal, and not that a record was run; came says that. */
 typedef struct {
     bulitampaw_session session;
     size_t next, text;
@@ -155,7 +160,7 @@ typedef struct {
     uint32_t came;
 } bulitampaw_stepped;
 
-/* A fresh state: all zero, nothing waiting. */
+/* A fresh state: all zero, nothing waiting. The store of a fresh chip is all zero too; it is the caller's, and the same one is lent to every call. */
 bulitampaw_state bulitampaw_fresh(void);
 
 /* Writes a value to the register at an address. A colour write waits in the queue; any other acts at once.
@@ -173,7 +178,7 @@ bulitampaw_dotted bulitampaw_dot(bulitampaw_state state, uint32_t *store, size_t
 bulitampaw_dotted bulitampaw_dots(bulitampaw_state state, uint32_t *store, size_t store_length, uint32_t count);
 
 /* Draws line y: the first words of the output, as many as the active width, become its colours, and the words past them stay.
-   Each colour has red in bits 23..16, green in 15..8 and blue in 7..0. Neither state nor store change.
+   Each colour has red in bits 23..16, green in 15..8, blue in 7..0, and 0 above. Neither state nor store change.
    Where window IDs are off the table isn't looked at; else it has 65,536 bytes at most. The normal row has exactly 2 bytes a pixel
    at depth 16, 4 at depth 32, big-endian. Where overlay is off its row isn't looked at; else it has exactly one
    byte a pixel. The output has at least one word a pixel.
@@ -186,11 +191,13 @@ bulitampaw_drawn bulitampaw_line(bulitampaw_state state, uint32_t y, const uint3
 bulitampaw_session bulitampaw_fresh_session(void);
 
 /* Runs the record at a place of a session file's bytes, on the lent store, table, rows and output, and puts its text, without a closing
-   zero byte, at the front of the text. The next step goes on at the place that comes back. A last other than 0 says that the file ends with these bytes.
+   zero byte, at the front of the text. The next step goes on at the place that comes back. A last other than 0 says that the file ends with these bytes;
+   behind them there are none, and a place past their end is one where nothing stands.
    A record that is not whole is waited for, unless the file ends: the step then comes to BULITAMPAW_CAME_MORE and did nothing. Lend the bytes from the same
    place on again, with more behind them, or with last set. Only 12 is told of such a record at once; 14 and 13 may depend on what follows.
-   Refused by 11 where the session says that more of table or rows is there than fits their rooms, then by 5 at the lowest place. Such a refusal is the call's
-   and no line of the listing. What a record is refused for, 11 for a bad state of the chip too, stands in the text and in the answer.
+   Store, table, rows and output have exactly the lengths above, the text at least its own. The call is refused by 11 where the session says that more of
+   table or rows is there than their rooms hold, then by 5 at the lowest place. That is no line of the listing. What a record is refused for, 11 for a
+   bad state of the chip too, is listed: it stands in the text and in the answer, and the run goes on.
    A run is over with BULITAMPAW_CAME_END, BULITAMPAW_CAME_STOPPED and a refused call. */
 bulitampaw_stepped bulitampaw_step(bulitampaw_session session, const uint8_t *bytes, size_t length, size_t place, uint32_t last,
     uint32_t *store, size_t store_length, uint8_t *table, size_t table_length, uint8_t *normal, size_t normal_length,
@@ -248,7 +255,7 @@ static inline bulitampaw_refusal bulitampaw_state_dot(bulitampaw_state *state, u
 {
     const bulitampaw_dotted dotted = bulitampaw_dot(*state, store, BULITAMPAW_STORE_WORDS);
     *state = dotted.state;
-    if (signals != NULL)
+    if (signals)
         *signals = dotted.signals;
     return dotted.refusal;
 }
@@ -258,7 +265,7 @@ static inline bulitampaw_refusal bulitampaw_state_dots(bulitampaw_state *state, 
 {
     const bulitampaw_dotted dotted = bulitampaw_dots(*state, store, BULITAMPAW_STORE_WORDS, count);
     *state = dotted.state;
-    if (signals != NULL)
+    if (signals)
         *signals = dotted.signals;
     return dotted.refusal;
 }

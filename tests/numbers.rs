@@ -7,7 +7,7 @@ pub struct Numbers(u64);
 
 impl Numbers {
     pub fn new(seed: u64) -> Self {
-        Self(seed | 1)
+        Self(2 * seed + 1)
     }
 
     pub fn next(&mut self) -> u32 {

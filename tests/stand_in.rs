@@ -1,4 +1,4 @@
-//! The plain model under the library's names, for a C program to link in the library's place.
+//! The plain model under the library's names, as many as the example calls, to be linked in the library's place.
 
 mod answers;
 mod by_value;

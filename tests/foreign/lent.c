@@ -1,5 +1,6 @@
 #include "lent.h"
 
+#include <sanitizer/asan_interface.h>
 #include <stdio.h>
 #include <stdlib.h>
 #include <string.h>
@@ -36,6 +37,28 @@ static uint8_t *guarded_pages(void) {
     return all + page;
 }
 
+/* Has AddressSanitizer watch what stands around a block on the heap, or look away. */
+static void watch_around(const block *b, int watch) {
+    if (b->heap == NULL)
+        return;
+    if (watch) {
+        ASAN_POISON_MEMORY_REGION(b->heap, AROUND);
+        ASAN_POISON_MEMORY_REGION(b->at + b->bytes, AROUND);
+    } else {
+        ASAN_UNPOISON_MEMORY_REGION(b->heap, b->bytes + 2 * AROUND);
+    }
+}
+
+/* A block on the heap, with any bytes around it. */
+static uint8_t *on_the_heap(block *b) {
+    b->heap = (uint8_t *)malloc(b->bytes + 2 * AROUND);
+    must(b->heap != NULL, "malloc");
+    fill(b->heap, b->bytes + 2 * AROUND);
+    b->at = b->heap + AROUND;
+    watch_around(b, 1);
+    return b->at;
+}
+
 void *lend(part which, size_t bytes) {
     block *b = &blocks[which];
     if (b->pages == NULL) {
@@ -44,15 +67,12 @@ void *lend(part which, size_t bytes) {
         must(b->remembered != NULL, "malloc");
     }
     must(bytes <= MOST, "a block that is too long");
+    watch_around(b, 0);
     free(b->heap);
     b->heap = NULL;
     b->bytes = bytes;
     switch (below(3)) {
-    case 0:
-        b->heap = bytes > 0 || one_in(2) ? (uint8_t *)malloc(bytes) : NULL;
-        must(bytes == 0 || b->heap != NULL, "malloc");
-        b->at = b->heap;
-        break;
+    case 0: b->at = bytes > 0 || one_in(2) ? on_the_heap(b) : NULL; break;
     case 1: b->at = b->pages; break;
     default: b->at = b->pages + MOST - bytes; break;
     }
@@ -78,14 +98,14 @@ void lent_read_only(part which, int read_only) {
         must(mprotect(blocks[which].pages, MOST, read_only ? PROT_READ : PROT_READ | PROT_WRITE) == 0, "mprotect");
 }
 
-/* How many bytes of the pages stand before the block and behind it, as far as they are looked at. */
+/* How many bytes stand before the block and behind it, as far as they are looked at. */
 static size_t room_before(const block *b) {
-    const size_t room = in_pages(b) ? (size_t)(b->at - b->pages) : 0;
+    const size_t room = in_pages(b) ? (size_t)(b->at - b->pages) : b->at != NULL ? AROUND : 0;
     return room < AROUND ? room : AROUND;
 }
 
 static size_t room_after(const block *b) {
-    const size_t room = in_pages(b) ? (size_t)(b->pages + MOST - b->at) - b->bytes : 0;
+    const size_t room = in_pages(b) ? (size_t)(b->pages + MOST - b->at) - b->bytes : b->at != NULL ? AROUND : 0;
     return room < AROUND ? room : AROUND;
 }
 
@@ -93,17 +113,22 @@ void lent_remember(part which) {
     block *b = &blocks[which];
     if (b->bytes > 0)
         memcpy(b->remembered, b->at, b->bytes);
-    if (in_pages(b)) {
+    if (b->at != NULL) {
+        watch_around(b, 0);
         memcpy(b->before, b->at - room_before(b), room_before(b));
         memcpy(b->after, b->at + b->bytes, room_after(b));
+        watch_around(b, 1);
     }
 }
 
 int lent_stays(part which, size_t from) {
     const block *b = &blocks[which];
-    if (from < b->bytes && memcmp(b->at + from, b->remembered + from, b->bytes - from) != 0)
-        return 0;
-    return !in_pages(b)
-        || (memcmp(b->before, b->at - room_before(b), room_before(b)) == 0
-            && memcmp(b->after, b->at + b->bytes, room_after(b)) == 0);
+    if (b->at == NULL)
+        return 1;
+    watch_around(b, 0);
+    const int stays = (from >= b->bytes || memcmp(b->at + from, b->remembered + from, b->bytes - from) == 0)
+        && memcmp(b->before, b->at - room_before(b), room_before(b)) == 0
+        && memcmp(b->after, b->at + b->bytes, room_after(b)) == 0;
+    watch_around(b, 1);
+    return stays;
 }

@@ -1,5 +1,5 @@
-/* Memory that is lent to a call: a block of exactly its size on the heap, where AddressSanitizer watches this program, or one that
-   starts behind a page that can't be touched or ends before one, where the processor watches the library too. */
+/* Memory that is lent to a call: a block on the heap, around which AddressSanitizer watches this program, or one that starts behind a page
+   that can't be touched or ends before one, where the processor watches the library too. What stands around a block is compared after each call. */
 #ifndef LENT_H
 #define LENT_H
 
