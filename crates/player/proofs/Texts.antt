@@ -2,16 +2,17 @@
 use Prim.Native.Nat.{ℕ, _+_, _<_, _≤_}
 use mathlib.Core.Path.{_≡_, refl, sym, ap, _∙_}
 use mathlib.Core.Bool.{Bool, true, false, cond, not}
-use mathlib.Core.List.{List, [], _∷_, _++_}
+use mathlib.Core.List.{List, [], _∷_}
 use native.Mathlib.Nat.{zero-add}
 use native.Mathlib.Omega.{arith}
 use borrow.Author.Tests.{lt-ltb, le-ltb, le-leb, eqb-true}
 use lib.Dec.{eqb}
 use lib.ListN.{length, length-take}
 use Rattle.rules.specs.Rule.{Outcome, ok, refused}
-use Rattle.rules.specs.Faults.{Numbered, Fault, unless}
+use Rattle.rules.specs.Faults.{Numbered, Fault}
 use Rattle.rules.specs.Checked.{verdict}
 use Rattle.rules.proofs.Faults.{accepted-clear}
+use Rattle.rules.proofs.Last.{firstOr, last-clear, last-holds}
 use Rattle.plain.specs.Numbers.{refusedBy}
 use Rattle.listing.specs.Text.{Listed, shown, text}
 use Rattle.listing.specs.Text as entry
@@ -23,34 +24,6 @@ use Rattle.session.specs.declared.session.Session.{Session}
 use Rattle.player.specs.Steps.{textRoom, shortText, textFault, cameTo, textBy, stepAnswer, stepLeft, stepInNumbers}
 use Rattle.player.specs.Inner.{putEntry, putText, orText}
 use Rattle.player.specs.declared.steps.Stepped.{Stepped}
-
--- the first refusal of some faults, or else the last one
-abbrev firstOr : List Fault → Numbered → Numbered
-firstOr [] last = last
-firstOr (fault ∷ faults) last = cond (fault .holds) (fault .refusal) (firstOr faults last)
-
-module _ {Memory Answer : Type 0} (before : Memory) (done : Memory × Answer) where
-  -- refused by one or by the other
-  one-or-other : (test : Bool) (one other : Numbered)
-      → _≡_ {A = Memory × Outcome Numbered Answer} (cond test (before, refused one) (before, refused other)) (before, refused (cond test one other))
-  one-or-other true one other = refl
-  one-or-other false one other = refl
-
-  -- a last fault that is clear doesn't count
-  last-clear : (faults : List Fault) (last : Fault) → last .holds ≡ false → unless (faults ++ last ∷ []) before done ≡ unless faults before done
-  last-clear [] last clear =
-      ap (λ (test : Bool). cond test (before, refused (last .refusal)) (done .0, ok (done .1))) clear
-  last-clear (fault ∷ faults) last clear =
-      ap (λ (rest : Memory × Outcome Numbered Answer). cond (fault .holds) (before, refused (fault .refusal)) rest) (last-clear faults last clear)
-
-  -- one that holds refuses where no other did
-  last-holds : (faults : List Fault) (last : Fault) → last .holds ≡ true
-      → unless (faults ++ last ∷ []) before done ≡ (before, refused (firstOr faults (last .refusal)))
-  last-holds [] last holds =
-      ap (λ (test : Bool). cond test (before, refused (last .refusal)) (done .0, ok (done .1))) holds
-  last-holds (fault ∷ faults) last holds =
-      ap (λ (rest : Memory × Outcome Numbered Answer). cond (fault .holds) (before, refused (fault .refusal)) rest) (last-holds faults last holds)
-      ∙ one-or-other (fault .holds) (fault .refusal) (firstOr faults (last .refusal))
 
 -- by its test a fault comes first, or what comes of the others
 by-fault : (test : Bool) (one other : Numbered) (rest : Outcome Numbered (Unit {0})) → orText rest ≡ refusedBy other

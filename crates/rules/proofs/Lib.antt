@@ -2,6 +2,7 @@ pub mod Cases
 pub mod Rests
 pub mod Then
 pub mod First
+pub mod Last
 pub mod Lists
 pub mod Each
 pub mod Fill
