@@ -18,13 +18,14 @@ mod numbers;
 #[path = "../tests/session/recorded.rs"]
 mod recorded;
 mod session;
+mod step;
 
 fn main() {
     let mut words = std::env::args().skip(1);
     let mut path = || words.next().expect("the paths of both programs");
     let (proved, model) = (path(), path());
     measure::print_head();
-    for row in line::rows().chain(chip::rows()).chain(session::rows(&proved, &model)) {
+    for row in line::rows().chain(chip::rows()).chain([step::row()]).chain(session::rows(&proved, &model)) {
         row.print();
     }
 }

@@ -11,11 +11,8 @@ use crate::recorded;
 /// Where the session files are put.
 const FOLDER: &str = "target/bench";
 
-/// A session: what it is, the name of its file, and how that comes to be.
-type Session = (&'static str, &'static str, fn(&mut Numbers) -> Vec<u8>);
-
-/// The sessions that are measured.
-const SESSIONS: [Session; 3] = [
+/// The sessions that are measured: what each is, the name of its file, and the file.
+const SESSIONS: [(&str, &str, fn() -> Vec<u8>); 3] = [
     ("session of 2,000 lines in 8-8-8, a row for each", "lines", lines),
     ("session of a million writes, dots and short rows", "records", records),
     ("session of 200 MB of rows", "rows", rows_only),
@@ -25,8 +22,8 @@ const SESSIONS: [Session; 3] = [
 pub fn rows<'a>(proved: &'a str, model: &'a str) -> impl Iterator<Item = Row> + 'a {
     SESSIONS.into_iter().map(|(what, name, session)| {
         let file = format!("{FOLDER}/{name}.session");
-        fs::write(&file, session(&mut Numbers::new(20_010_417))).expect("the file is written");
-        assert!(listing(proved, &file) == listing(model, &file), "{what}: not the same listing");
+        fs::write(&file, session()).expect("the file is written");
+        assert!(listing(proved, &file) == listing(model, &file), "{what}: not the same work");
         let what = what.to_string();
         Row { what, unit: MILLISECONDS, proved: timed(proved, &file), model: timed(model, &file), by_value: None }
     })
@@ -53,7 +50,8 @@ fn timed(program: &str, file: &str) -> Timed {
 }
 
 /// A screen of 2,048 by 2,048 at depth 32; window 0 is 8-8-8 through a gamma of random words.
-fn lines(numbers: &mut Numbers) -> Vec<u8> {
+fn lines() -> Vec<u8> {
+    let mut numbers = Numbers::new(20_010_417);
     let mut file = Vec::new();
     for (address, value) in [(0x00, 0x10), (0x04, 0x07FF_07FF), (0x1C, 0x07FF_07FF), (0x01_0000, 0x0A)] {
         file.extend(recorded::write(address, value));
@@ -62,7 +60,7 @@ fn lines(numbers: &mut Numbers) -> Vec<u8> {
         file.extend(recorded::write(0x03_0000 + 4 * word, numbers.next() & 0xFF_FFFF));
     }
     for y in 0..2000 {
-        file.extend(recorded::normal(&row(numbers, 8192)));
+        file.extend(recorded::normal(&row(&mut numbers, 8192)));
         file.extend(recorded::line(y));
     }
     file.extend(recorded::END);
@@ -71,7 +69,8 @@ fn lines(numbers: &mut Numbers) -> Vec<u8> {
 
 /// In turn three gamma writes, two colour writes, three runs of up to 15 dots and a row of each kind of up to 7 bytes.
 /// A line has 16 dots, half of them blanked.
-fn records(numbers: &mut Numbers) -> Vec<u8> {
+pub fn records() -> Vec<u8> {
+    let mut numbers = Numbers::new(20_010_417);
     let mut file = [recorded::write(0x04, 15), recorded::write(0x10, 8)].concat();
     for number in 2..999_999 {
         let any = numbers.next();
@@ -79,8 +78,8 @@ fn records(numbers: &mut Numbers) -> Vec<u8> {
             0..=2 => recorded::write(0x03_0000 + 4 * (any >> 24), any & 0xFF_FFFF),
             3..=4 => recorded::write(0x02_0000 + 4 * (any >> 24), any & 0xFF_FFFF),
             5..=7 => recorded::dots(any % 16),
-            8 => recorded::normal(&row(numbers, any % 8)),
-            _ => recorded::overlay(&row(numbers, any % 8)),
+            8 => recorded::normal(&row(&mut numbers, any % 8)),
+            _ => recorded::overlay(&row(&mut numbers, any % 8)),
         };
         file.extend(record);
     }
@@ -89,8 +88,9 @@ fn records(numbers: &mut Numbers) -> Vec<u8> {
 }
 
 /// A row of each kind of the greatest length in turn, as many as fill the file.
-fn rows_only(numbers: &mut Numbers) -> Vec<u8> {
-    let pair = [recorded::normal(&row(numbers, 8192)), recorded::overlay(&row(numbers, 2048))].concat();
+fn rows_only() -> Vec<u8> {
+    let mut numbers = Numbers::new(20_010_417);
+    let pair = [recorded::normal(&row(&mut numbers, 8192)), recorded::overlay(&row(&mut numbers, 2048))].concat();
     let mut file = pair.repeat(200_000_000 / pair.len());
     file.extend(recorded::END);
     file

@@ -1,0 +1,78 @@
+//! A session stepped through C's interface, from the bytes of a file to its text.
+
+use std::hint::black_box;
+use std::time::Instant;
+
+use crate::library;
+use crate::measure::{Row, Timed, Unit};
+use crate::model::registers::STORE_WORDS;
+use crate::model::session::{self, OUTPUT_WORDS};
+use crate::model::step::{Rooms, LISTED, NORMAL_BYTES, OVERLAY_BYTES, TEXT_BYTES};
+use crate::model::windows::TABLE_BYTES;
+use crate::session::records;
+
+/// The steps of the session that is measured.
+const STEPS: u32 = 1_000_000;
+
+/// A time of that session, as that of each step.
+const A_STEP: Unit = ("ns/step", STEPS as f64);
+
+/// A million short records. Library and model must list the same.
+pub fn row() -> Row {
+    let what = "step of a session of writes, dots and short rows";
+    let file = records();
+    let listing = |list: fn(&[u8], &mut Vec<u8>)| {
+        let mut listing = Vec::new();
+        list(&file, &mut listing);
+        listing
+    };
+    assert!(listing(of_library) == listing(of_model), "{what}: not the same work");
+    Row {
+        what: what.to_string(),
+        unit: A_STEP,
+        proved: timed(&file, of_library),
+        model: timed(&file, of_model),
+        by_value: None,
+    }
+}
+
+/// How long it takes to list a file so many times.
+fn timed(file: &[u8], list: fn(&[u8], &mut Vec<u8>)) -> Timed {
+    let file = file.to_vec();
+    Box::new(move |times| {
+        let mut listing = Vec::new();
+        let clock = Instant::now();
+        for _ in 0..times {
+            listing.clear();
+            list(black_box(&file), black_box(&mut listing));
+        }
+        clock.elapsed()
+    })
+}
+
+/// Lists a file by the library, step by step.
+fn of_library(file: &[u8], listing: &mut Vec<u8>) {
+    let mut bytes = file.to_vec();
+    let (mut store, mut output) = (vec![0; STORE_WORDS], vec![0; OUTPUT_WORDS]);
+    let (mut table, mut normal, mut overlay) = (vec![0; TABLE_BYTES], vec![0; NORMAL_BYTES], vec![0; OVERLAY_BYTES]);
+    let mut text = vec![0; TEXT_BYTES];
+    let (mut held, mut place, mut came) = (library::fresh_session(), 0, LISTED);
+    while came == LISTED {
+        let rooms = Rooms {
+            store: &mut store,
+            table: &mut table,
+            normal: &mut normal,
+            overlay: &mut overlay,
+            output: &mut output,
+            text: &mut text,
+        };
+        let stepped = library::step(held, &mut bytes, place, 1, rooms);
+        listing.extend_from_slice(&text[..stepped.text]);
+        (held, place, came) = (stepped.held, stepped.next, stepped.came);
+    }
+}
+
+/// Lists a file by the model.
+fn of_model(file: &[u8], listing: &mut Vec<u8>) {
+    session::list(file, listing).expect("bytes can be read and put");
+}
