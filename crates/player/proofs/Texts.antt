@@ -1,11 +1,11 @@
 -- A step's text: the fault of one that is too short comes last, and one that is long enough holds every entry. Assumes nothing.
 use Prim.Native.Nat.{ℕ, _+_, _<_, _≤_}
 use mathlib.Core.Path.{_≡_, refl, sym, ap, _∙_}
-use mathlib.Core.Bool.{Bool, true, false, cond, not}
+use mathlib.Core.Bool.{Bool, true, false, cond}
 use mathlib.Core.List.{List, [], _∷_}
 use native.Mathlib.Nat.{zero-add}
 use native.Mathlib.Omega.{arith}
-use borrow.Author.Tests.{lt-ltb, le-ltb, le-leb, eqb-true}
+use borrow.Author.Tests.{lt-ltb, le-ltb, le-leb, eqb-true, not-false}
 use lib.Dec.{eqb}
 use lib.ListN.{length, length-take}
 use Rattle.rules.specs.Rule.{Outcome, ok, refused}
@@ -58,11 +58,6 @@ module _ (output lent : List ℕ) (long : textRoom ≤ length lent) where
   text-put (ok (stopped refusal)) short = entry-put (entry.refused refusal) (short (stopped refusal) refl)
   text-put (refused refusal) short = refl
 
--- what is not no is yes
-not-no : (test : Bool) → not test ≡ false → test ≡ true
-not-no true e = refl
-not-no false e = sym e
-
 module _ (session : Session) (rooms : Rooms) (lent bytes : List ℕ) (place : ℕ) (last : Bool) where
   -- with a text too short a step is refused
   pub step-short : length lent < textRoom
@@ -87,7 +82,7 @@ module _ (session : Session) (rooms : Rooms) (lent bytes : List ℕ) (place : �
   unfolding sessionStep roomFaults
   output-room {came} e =
       eqb-true (length (rooms .output)) outputRoom
-      (not-no (eqb (length (rooms .output)) outputRoom)
+      (not-false (eqb (length (rooms .output)) outputRoom)
       (accepted-clear ((session, place), rooms) (afterStep session rooms bytes place last) (stepFaults session rooms) came e .1 .1 .1 .1 .1 .0))
 
   -- a step and its text, from what the session's step and the putting of its text left
