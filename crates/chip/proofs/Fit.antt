@@ -11,13 +11,13 @@ use Rattle.rules.specs.Faults.{Numbered, Fault, unless}
 use Rattle.refusals.specs.Refusal.{numbered}
 use Rattle.refusals.specs.declared.Refusal.{Refusal}
 use Rattle.refusals.specs.declared.Refusal.the-variants.{StoreLength, BadState}
+use Rattle.refusals.specs.declared.Fit.{Fit}
+use Rattle.refusals.specs.declared.Fit.the-variants.{Yes, Refused}
 use Rattle.registers.specs.Store.{storeLength}
 use Rattle.chip.specs.State.{goodState}
 use Rattle.chip.specs.Call.{Chip, callFaults}
 use Rattle.chip.specs.Inner.{fit}
 use Rattle.chip.specs.declared.state.State.{State}
-use Rattle.chip.specs.declared.state.Fit.{Fit}
-use Rattle.chip.specs.declared.state.Fit.the-variants.{Yes, Refused}
 
 -- a call may go on with this state and this store
 abbrev pub GoesOn : Chip → Type 0

@@ -7,6 +7,7 @@ use Rattle.rules.specs.Faults.{unless}
 use Rattle.refusals.specs.Refusal.{numbered}
 use Rattle.refusals.specs.declared.Refusal.{Refusal}
 use Rattle.refusals.specs.declared.Refusal.the-variants.{NoRegister}
+use Rattle.refusals.specs.declared.Fit.the-variants.{Yes, Refused}
 use Rattle.registers.specs.Named.{placeOf, named}
 use Rattle.registers.specs.declared.Register.{Register}
 use Rattle.registers.specs.declared.Named.{Named}
@@ -14,7 +15,6 @@ use Rattle.registers.specs.declared.Named.the-variants.{Is, Nothing}
 use Rattle.chip.specs.Call.{Chip}
 use Rattle.chip.specs.Read.{nameFaults, shown, shownNamed, readBack}
 use Rattle.chip.specs.Inner.{fit}
-use Rattle.chip.specs.declared.state.Fit.the-variants.{Yes, Refused}
 use Rattle.chip.proofs.Fit.{fit-on, fit-off}
 
 module _ (chip : Chip) (address : ℕ) where

@@ -10,6 +10,7 @@ use lib.ListN.{length}
 use Rattle.rules.specs.Rule.{ok, refused}
 use Rattle.refusals.specs.Refusal.{numbered}
 use Rattle.refusals.specs.declared.Refusal.{Refusal}
+use Rattle.refusals.specs.declared.Fit.the-variants.{Yes, Refused}
 use Rattle.timing.specs.Signals.{signalsAt}
 use Rattle.timing.specs.Move.{positionAfter}
 use Rattle.timing.specs.Walk.{walked}
@@ -25,7 +26,6 @@ use Rattle.chip.specs.Dots.{afterDots, lastReport, ran}
 use Rattle.chip.specs.Inner.{fit, applied, walk}
 use Rattle.chip.specs.declared.state.State.{State}
 use Rattle.chip.specs.declared.dots.Report.the-variants.{Nothing, Last}
-use Rattle.chip.specs.declared.state.Fit.the-variants.{Yes, Refused}
 use Rattle.chip.proofs.Good.{dot-length, dot-whole, dot-good, placed-good, dots-add}
 use Rattle.chip.proofs.Fit.{fit-on, fit-off}
 

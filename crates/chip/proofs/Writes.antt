@@ -8,6 +8,8 @@ use Rattle.rules.specs.Faults.{Numbered, unless}
 use Rattle.refusals.specs.Refusal.{numbered}
 use Rattle.refusals.specs.declared.Refusal.{Refusal}
 use Rattle.refusals.specs.declared.Refusal.the-variants.{NoRegister, ReadOnly, StrayBits, QueueFull}
+use Rattle.refusals.specs.declared.Fit.{Fit}
+use Rattle.refusals.specs.declared.Fit.the-variants.{Yes, Refused as Unfit}
 use Rattle.registers.specs.Named.{placeOf, named}
 use Rattle.registers.specs.Kept.{fits}
 use Rattle.registers.specs.declared.Register.{Register}
@@ -17,8 +19,6 @@ use Rattle.queue.specs.Queue.{full}
 use Rattle.chip.specs.Call.{Chip}
 use Rattle.chip.specs.Write.{readOnly, waits, registerFaults, put, putNamed, written}
 use Rattle.chip.specs.Inner.{fit, judgedOn, judged}
-use Rattle.chip.specs.declared.state.Fit.{Fit}
-use Rattle.chip.specs.declared.state.Fit.the-variants.{Yes, Refused as Unfit}
 use Rattle.chip.specs.declared.write.Verdict.{Verdict}
 use Rattle.chip.specs.declared.write.Verdict.the-variants.{To, Refused}
 use Rattle.chip.proofs.Fit.{fit-on, fit-off}

@@ -5,6 +5,8 @@ use mathlib.Core.List.{List}
 use lib.Dec.{eqb}
 use lib.ListN.{getD, set}
 use Rattle.refusals.specs.declared.Refusal.the-variants.{NoRegister, ReadOnly, StrayBits, QueueFull, StoreLength, BadState}
+use Rattle.refusals.specs.declared.Fit.{Fit}
+use Rattle.refusals.specs.declared.Fit.the-variants.{Yes, Refused as Unfit}
 use Rattle.timing.specs.Move.{positionAfter}
 use Rattle.timing.specs.Walk.{walked}
 use Rattle.timing.specs.declared.Position.{Position}
@@ -20,8 +22,6 @@ use Rattle.chip.specs.Call.{Chip}
 use Rattle.chip.specs.Write.{readOnly, waits}
 use Rattle.chip.specs.Dot.{target}
 use Rattle.chip.specs.declared.state.State.{State}
-use Rattle.chip.specs.declared.state.Fit.{Fit}
-use Rattle.chip.specs.declared.state.Fit.the-variants.{Yes, Refused as Unfit}
 use Rattle.chip.specs.declared.write.Verdict.{Verdict}
 use Rattle.chip.specs.declared.write.Verdict.the-variants.{To, Refused}
 

@@ -3,6 +3,7 @@ ghost use mathlib.Core.Path.{_≡_};
 ghost use Rattle.chip.specs.State.{fresh, goodWords, goodState, windowsOf};
 ghost use Rattle.chip.specs.Inner.{fit};
 use queue::Queue;
+use refusals::Fit;
 use refusals::Refusal;
 use registers::Block;
 use registers::Register;
@@ -15,12 +16,6 @@ pub struct State {
     pub control: [u32; 9],
     pub at: Position,
     pub queue: Queue,
-}
-
-// Whether a call may go on.
-pub enum Fit {
-    Yes,
-    Refused(Refusal),
 }
 
 // Whether no control word has stray bits.

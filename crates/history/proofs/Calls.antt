@@ -5,6 +5,8 @@ use mathlib.Core.List.{List, [], _∷_, _++_}
 use lib.ListN.{length, replicate}
 use Rattle.rules.specs.Rule.{Outcome, ok}
 use Rattle.rules.specs.Faults.{Numbered}
+use Rattle.refusals.specs.declared.Fit.{Fit}
+use Rattle.refusals.specs.declared.Fit.the-variants.{Yes, Refused}
 use Rattle.timing.specs.declared.Signals.{Signals}
 use Rattle.registers.specs.declared.Register.{Register}
 use Rattle.registers.specs.declared.Named.the-variants.{Is}
@@ -15,8 +17,6 @@ use Rattle.chip.specs.Write.{put, written}
 use Rattle.chip.specs.Dot.{signalsOf, afterDot, dotted}
 use Rattle.chip.specs.Dots.{ran}
 use Rattle.chip.specs.Inner.{fit}
-use Rattle.chip.specs.declared.state.Fit.{Fit}
-use Rattle.chip.specs.declared.state.Fit.the-variants.{Yes, Refused}
 use Rattle.chip.proofs.Good.{put-whole, dot-whole, dots-whole}
 use Rattle.chip.proofs.Fit.{GoesOn}
 use Rattle.chip.proofs.Runs.{dot-unfit, dot-done, dots-unfit, dots-done}

@@ -5,6 +5,8 @@ use lib.ListN.{length, replicate}
 use Rattle.rules.specs.Rule.{Outcome, ok, refused}
 use Rattle.rules.specs.Faults.{Numbered}
 use Rattle.refusals.specs.declared.Refusal.{Refusal}
+use Rattle.refusals.specs.declared.Fit.{Fit}
+use Rattle.refusals.specs.declared.Fit.the-variants.{Yes, Refused}
 use Rattle.timing.specs.declared.Signals.{Signals}
 use Rattle.chip.specs.State.{Whole}
 use Rattle.chip.specs.Call.{Chip}
@@ -13,8 +15,6 @@ use Rattle.chip.specs.Dots.{afterDots, lastReport, ran}
 use Rattle.chip.specs.Inner.{fit}
 use Rattle.chip.specs.declared.dots.Report.{Report}
 use Rattle.chip.specs.declared.dots.Report.the-variants.{Last}
-use Rattle.chip.specs.declared.state.Fit.{Fit}
-use Rattle.chip.specs.declared.state.Fit.the-variants.{Yes, Refused}
 use Rattle.chip.proofs.Good.{dot-length, dot-whole, dot-good, dots-length, dots-good}
 use Rattle.chip.proofs.Fit.{GoesOn, fit-says, says-fit}
 use Rattle.chip.proofs.Runs.{dot-unfit, dot-done, dots-unfit, dots-done}

@@ -11,6 +11,8 @@ use Rattle.rules.specs.Each.{each}
 use Rattle.rules.specs.Faults.{Numbered}
 use Rattle.rules.specs.Checked.{verdict}
 use Rattle.refusals.specs.Refusal.{numbered}
+use Rattle.refusals.specs.declared.Fit.the-variants.{Yes, Refused as Unfit}
+use Rattle.refusals.specs.declared.Fit.{Fit}
 use Rattle.colour.specs.declared.entry.Entry.{Entry}
 use Rattle.registers.specs.Store.{storeLength}
 use Rattle.windows.specs.Table.{tableView}
@@ -25,8 +27,6 @@ use Rattle.pixels.specs.declared.Screen.{Screen}
 use Rattle.setup.specs.Faults.{normalLength, lineFaults}
 use Rattle.setup.specs.declared.controls.Controls.{Controls}
 use Rattle.setup.specs.declared.setup.Setup.{Setup}
-use Rattle.setup.specs.declared.faults.Fit.the-variants.{Yes, Refused as Unfit}
-use Rattle.setup.specs.declared.faults.Fit.{Fit}
 use Rattle.line.specs.Screen.{screenOf}
 use Rattle.line.specs.Cells.{Cell, Lent, lentOf, view}
 use Rattle.line.specs.Line.{startOf, idAt, entryAt, lineRule}

@@ -8,8 +8,8 @@ ghost use Rattle.line.specs.Inner.{Sized, Entries, EntriesTold, Enough, 
 use crate::runs::RunAt;
 use crate::runs::run_at;
 use pixels::Screen;
+use refusals::Fit;
 use setup::controls::Controls;
-use setup::faults::Fit;
 
 // The first pass: whether every pixel has a defined window entry.
 pub(crate) fn check_runs(controls: Controls, store: &[u32], table: &[u8], start: usize) -> Fit

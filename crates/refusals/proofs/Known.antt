@@ -1,12 +1,15 @@
 -- A refusal is known by its number and values. Assumes nothing.
 use Prim.Native.Nat.{ℕ}
-use mathlib.Core.Path.{_≡_, refl}
+use mathlib.Core.Path.{_≡_, refl, ap, sym, _∙_}
 use mathlib.Core.List.{List, [], _∷_}
 use lib.ListN.{getD}
+use Rattle.rules.specs.Rule.{Outcome, ok, refused}
 use Rattle.rules.specs.Faults.{Numbered, placeIn}
-use Rattle.refusals.specs.Refusal.{numbered, placeOf}
+use Rattle.refusals.specs.Refusal.{numbered, placeOf, fitTold}
 use Rattle.refusals.specs.declared.Refusal.{Refusal}
 use Rattle.refusals.specs.declared.Refusal.the-variants.{NoRegister, ReadOnly, StrayBits, QueueFull, StoreLength, TableLength, NormalLength, OverlayLength, OutputLength, BelowActive, NoFrameEntry, NoLineEntry, UndefinedEntry, AboveTotal, BadState, WrongRecord, FileEnds, TooMuch}
+use Rattle.refusals.specs.declared.Fit.{Fit}
+use Rattle.refusals.specs.declared.Fit.the-variants.{Yes, Refused}
 
 -- the refusals of a wrong length, in the order of their places
 abbrev wrongLengths : List Refusal
@@ -77,3 +80,17 @@ one-value BadState = refl
 one-value (WrongRecord number) = refl
 one-value (FileEnds number) = refl
 one-value (TooMuch number) = refl
+
+-- whether a call may go on, where that is said
+abbrev fitOf : Outcome Numbered (Unit {0}) → Fit
+fitOf (ok done) = Yes
+fitOf (refused refusal) = Refused (refusalOf refusal)
+
+-- it is known by what it says
+fit-back : (fit : Fit) → fitOf (fitTold fit) ≡ fit
+fit-back Yes = refl
+fit-back (Refused refusal) = ap Refused (known refusal)
+
+-- so two that say the same are the same
+pub fit-known : (fit other : Fit) → fitTold fit ≡ fitTold other → fit ≡ other
+fit-known fit other says = sym (fit-back fit) ∙ ap fitOf says ∙ fit-back other

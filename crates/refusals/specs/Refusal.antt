@@ -2,9 +2,12 @@
 use Prim.Native.Nat.{ℕ}
 use mathlib.Core.Bool.{Bool}
 use mathlib.Core.List.{[], _∷_}
+use Rattle.rules.specs.Rule.{Outcome, ok, refused}
 use Rattle.rules.specs.Faults.{Numbered, Fault, placeIn}
 use Rattle.refusals.specs.declared.Refusal.{Refusal}
 use Rattle.refusals.specs.declared.Refusal.the-variants.{NoRegister, ReadOnly, StrayBits, QueueFull, StoreLength, TableLength, NormalLength, OverlayLength, OutputLength, BelowActive, NoFrameEntry, NoLineEntry, UndefinedEntry, AboveTotal, BadState, WrongRecord, FileEnds, TooMuch}
+use Rattle.refusals.specs.declared.Fit.{Fit}
+use Rattle.refusals.specs.declared.Fit.the-variants.{Yes, Refused}
 
 -- a number, with the place as the only value
 abbrev numberAt : ℕ → ℕ → Numbered
@@ -42,3 +45,8 @@ placeOf refusal = placeIn (numbered refusal)
 -- a fault that a call looks for: refused so where the test holds
 abbrev pub fault : Refusal → Bool → Fault
 fault refusal holds = record { holds = holds; refusal = numbered refusal }
+
+-- whether a call may go on: it may, or a refusal's number and values
+abbrev pub fitTold : Fit → Outcome Numbered (Unit {0})
+fitTold Yes = ok tt
+fitTold (Refused refusal) = refused (numbered refusal)

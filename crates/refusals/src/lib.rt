@@ -25,6 +25,12 @@ pub enum Refusal {
     TooMuch(u32),
 }
 
+// Whether a call may go on.
+pub enum Fit {
+    Yes,
+    Refused(Refusal),
+}
+
 impl Refusal {
     // Its number.
     pub fn number(self) -> u32

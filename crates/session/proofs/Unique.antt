@@ -6,9 +6,7 @@ use Rattle.rules.specs.Rule.{Outcome, ok, refused}
 use Rattle.rules.specs.Faults.{Numbered}
 use Rattle.rules.specs.Unique.{OneAnswer, OneOutcome}
 use Rattle.rules.proofs.Unique.{by-equation, by-outcome}
-use Rattle.refusals.proofs.Known.{refusalOf, known}
-use Rattle.chip.specs.declared.state.Fit.{Fit}
-use Rattle.chip.specs.declared.state.Fit.the-variants as fits
+use Rattle.refusals.proofs.Known.{refusalOf, known, fit-known}
 use Rattle.listing.specs.Text as text
 use Rattle.listing.specs.Text.{Listed, said}
 use Rattle.listing.specs.declared.entry.Entry.{Entry}
@@ -16,7 +14,6 @@ use Rattle.listing.specs.declared.entry.Entry.the-variants as entry
 use Rattle.session.specs.Record.{Came, listed, ended, waits, stopped}
 use Rattle.session.specs.Lent.{roomsOf}
 use Rattle.session.specs.Step.{told}
-use Rattle.session.specs.Inner.{fitTold}
 use Rattle.session.specs.declared.session.Session.{Session}
 use Rattle.session.specs.declared.step.Answer.{Answer}
 use Rattle.session.specs.declared.step.Answer.the-variants as answer
@@ -57,18 +54,8 @@ back answer.More = refl
 back (answer.Stopped refusal) = ap answer.Stopped (known refusal)
 back (answer.Refused refusal) = ap answer.Refused (known refusal)
 
--- whether a step may go on, where it says so
-abbrev fit-of : Outcome Numbered (Unit {0}) → Fit
-fit-of (ok done) = fits.Yes
-fit-of (refused refusal) = fits.Refused (refusalOf refusal)
-
--- which is known by what it says
-fit-back : (answer : Fit) → fit-of (fitTold answer) ≡ answer
-fit-back fits.Yes = refl
-fit-back (fits.Refused refusal) = ap fits.Refused (known refusal)
-
 pub fit-unique : OneAnswer fit.Post
-fit-unique k args answer other exit exit′ p q = sym (fit-back answer) ∙ ap fit-of (p ∙ sym q) ∙ fit-back other
+fit-unique k args answer other exit exit′ says says′ = fit-known answer other (says ∙ sym says′)
 
 pub new-unique : OneAnswer new.Post
 new-unique = by-equation _ _

@@ -7,8 +7,6 @@ use Rattle.rules.specs.Faults.{Numbered}
 use Rattle.refusals.specs.Refusal.{numbered}
 use Rattle.chip.specs.Call.{Chip}
 use Rattle.chip.specs.declared.state.State.{State}
-use Rattle.chip.specs.declared.state.Fit.{Fit}
-use Rattle.chip.specs.declared.state.Fit.the-variants.{Yes, Refused}
 use Rattle.records.specs.declared.record.Record.{Record}
 use Rattle.records.specs.declared.record.Record.the-variants.{End, Write, Dots, Table, Normal, Overlay, Line}
 use Rattle.listing.specs.Text.{Listed}
@@ -78,8 +76,3 @@ unfoldable pub actedIn : Session → Rooms → Record → List ℕ → (Session 
 actedIn session rooms which body =
     let after = acted (heldIn session rooms) which body in
     (leftIn rooms (after .0), ok (after .1))
-
--- whether a step may go on, or a refusal's number and values
-abbrev pub fitTold : Fit → Outcome Numbered (Unit {0})
-fitTold Yes = ok tt
-fitTold (Refused refusal) = refused (numbered refusal)

@@ -2,10 +2,9 @@
 ghost use mathlib.Core.Path.{_≡_};
 ghost use mathlib.Core.List.{_∷_};
 ghost use Rattle.rules.specs.Checked.{verdict};
-ghost use Rattle.refusals.specs.Refusal.{fault};
+ghost use Rattle.refusals.specs.Refusal.{fault, fitTold};
 ghost use Rattle.session.specs.Step.{tooMuchHeld, roomFaults};
-ghost use Rattle.session.specs.Inner.{fitTold};
-use chip::state::Fit;
+use refusals::Fit;
 use refusals::Refusal;
 
 // How many bytes of table and rows are there.

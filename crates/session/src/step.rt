@@ -5,10 +5,10 @@ ghost use Rattle.session.specs.Step.{told, sessionStep};
 use crate::fit::Counts;
 use crate::fit::fit;
 use crate::session::Session;
-use chip::state::Fit;
 use listing::entry::Entry;
 use records::record::Context;
 use records::record::Found;
+use refusals::Fit;
 use refusals::Refusal;
 
 // What a step answers: a record's entry in the listing, that the end record is reached, that the bytes end within a record and the file goes on, a

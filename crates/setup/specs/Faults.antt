@@ -10,8 +10,6 @@ use Rattle.refusals.specs.declared.Refusal.the-variants.{StoreLength, TableLeng
 use Rattle.registers.specs.Store.{storeLength}
 use Rattle.setup.specs.declared.controls.Controls.{Controls}
 use Rattle.setup.specs.declared.setup.Setup.{Setup}
-use Rattle.setup.specs.declared.faults.Fit.{Fit}
-use Rattle.setup.specs.declared.faults.Fit.the-variants.{Yes, Refused}
 
 -- the picture is wider or higher than what the total leaves behind its origin
 unfoldable pub aboveTotal : Controls → Bool
@@ -48,8 +46,3 @@ lineFaults setup =
     ∷ fault AboveTotal (aboveTotal (setup .controls))
     ∷ fault (BelowActive (setup .y)) (leb (setup .controls .height) (setup .y))
     ∷ lengthFaults setup
-
--- what the answer says: the line may go on, or a refusal's number and values
-abbrev pub fitTold : Fit → Outcome Numbered (Unit {0})
-fitTold Yes = ok tt
-fitTold (Refused refusal) = refused (numbered refusal)

@@ -3,16 +3,12 @@ ghost use Prim.Native.Nat.{_+_};
 ghost use mathlib.Core.Path.{_≡_};
 ghost use lib.Dec.{ltb};
 ghost use Rattle.rules.specs.Checked.{verdict};
-ghost use Rattle.setup.specs.Faults.{aboveTotal, normalLength, tableTooLong, overlayWrong, lengthFaults, lineFaults, fitTold};
+ghost use Rattle.refusals.specs.Refusal.{fitTold};
+ghost use Rattle.setup.specs.Faults.{aboveTotal, normalLength, tableTooLong, overlayWrong, lengthFaults, lineFaults};
 use crate::controls::Controls;
 use crate::setup::Setup;
+use refusals::Fit;
 use refusals::Refusal;
-
-// Whether a line may go on.
-pub enum Fit {
-    Yes,
-    Refused(Refusal),
-}
 
 // Whether an origin and a size go beyond a total.
 fn beyond(total: u32, origin: u32, size: u32) -> bool

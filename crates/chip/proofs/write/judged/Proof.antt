@@ -3,11 +3,11 @@ use mathlib.Core.Path.{_≡_, ap, sym, _∙_}
 use mathlib.Core.Bool.{Bool, true, false, _&&_}
 use borrow.Author.Needs.{needs}
 use borrow.Author.Tests.{not-true, not-false}
+use Rattle.refusals.specs.declared.Fit.the-variants.{Yes}
 use Rattle.registers.specs.Named.{named}
 use Rattle.registers.specs.Kept.{fits}
 use Rattle.registers.specs.declared.Named.the-variants.{Is}
 use Rattle.chip.specs.Write.{readOnly, waits}
-use Rattle.chip.specs.declared.state.Fit.the-variants.{Yes}
 use Rattle.chip.proofs.Writes.{judged-unfit, judged-nowhere, judged-read-only, judged-stray, judged-full, judged-to}
 use Rattle.chip.proofs.write.judged.Statement.{statement}
 use Rattle.chip.proofs.write.judged.Tie as tie

@@ -4,10 +4,11 @@ use borrow.Author.Needs.{needs}
 use denote.Ref.{now}
 use Rattle.rules.specs.Checked.{verdict}
 use Rattle.rules.specs.Rule.{ok}
+use Rattle.refusals.specs.Refusal.{fitTold}
+use Rattle.refusals.specs.declared.Fit.{Fit}
 use Rattle.windows.specs.declared.frame.LineTable.the-variants.{Starts}
 use Rattle.windows.specs.declared.frame.LineTable.{LineTable}
-use Rattle.setup.specs.Faults.{lineFaults, fitTold}
-use Rattle.setup.specs.declared.faults.Fit.{Fit}
+use Rattle.setup.specs.Faults.{lineFaults}
 use Rattle.setup.proofs.Fitted.{fitted}
 use Rattle.setup.proofs.setup.Setup.fit.Reads as fit-reads
 use Rattle.line.specs.Cells.{lentOf}

@@ -1,8 +1,8 @@
 -- `player::steps::short_of_text` meets its contract: the rooms first, and then the text. Assumes nothing.
 use mathlib.Core.Path.{ap, sym, _∙_}
 use borrow.Author.Needs.{needs}
-use Rattle.chip.specs.declared.state.Fit.{Fit}
-use Rattle.session.specs.Inner.{fitTold}
+use Rattle.refusals.specs.Refusal.{fitTold}
+use Rattle.refusals.specs.declared.Fit.{Fit}
 use Rattle.player.specs.Inner.{orText}
 use Rattle.player.proofs.steps.short_of_text.Statement.{statement}
 use Rattle.player.proofs.steps.short_of_text.Tie as tie

@@ -6,12 +6,12 @@ use borrow.Author.Needs.{needs}
 use denote.Ref.{now}
 use lib.ListN.{length, drop}
 use Rattle.rules.specs.Checked.{verdict}
-use Rattle.chip.specs.declared.state.Fit.{Fit}
+use Rattle.refusals.specs.Refusal.{fitTold}
+use Rattle.refusals.specs.declared.Fit.{Fit}
 use Rattle.records.proofs.Accepted.{found-accepted}
 use Rattle.records.proofs.Limits.{numbered-below}
 use Rattle.session.specs.Lent.{roomsOf}
 use Rattle.session.specs.Step.{stepFaults}
-use Rattle.session.specs.Inner.{fitTold}
 use Rattle.session.proofs.Stepping.{judgedBy, ends-within, body-part, body-long, fitted, within, fits, step-refused, step-waits, step-stops, step-acts}
 use Rattle.session.proofs.step.step.Statement.{statement}
 use Rattle.session.proofs.step.step.Tie as tie

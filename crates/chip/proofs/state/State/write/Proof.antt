@@ -2,10 +2,10 @@
 use mathlib.Core.Path.{_≡_, ap, sym, _∙_}
 use borrow.Author.Needs.{needs}
 use Rattle.rules.specs.Rule.{ok}
+use Rattle.refusals.specs.declared.Fit.{Fit}
 use Rattle.registers.proofs.Naming.{named-word}
 use Rattle.chip.specs.Call.{Chip}
 use Rattle.chip.specs.Inner.{judged}
-use Rattle.chip.specs.declared.state.Fit.{Fit}
 use Rattle.chip.proofs.Fit.{fit-says}
 use Rattle.chip.proofs.Writes.{goes-says, verdictOn, write-refused, write-goes}
 use Rattle.chip.proofs.state.State.write.Statement.{statement}
