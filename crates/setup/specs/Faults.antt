@@ -3,9 +3,8 @@ use Prim.Native.Nat.{ℕ, _+_, _*_, _/_}
 use mathlib.Core.Bool.{Bool, not, _&&_, _||_}
 use mathlib.Core.List.{List, [], _∷_}
 use lib.Dec.{eqb, leb, ltb}
-use Rattle.rules.specs.Rule.{Outcome, ok, refused}
-use Rattle.rules.specs.Faults.{Numbered, Fault}
-use Rattle.refusals.specs.Refusal.{numbered, fault}
+use Rattle.rules.specs.Faults.{Fault}
+use Rattle.refusals.specs.Refusal.{fault}
 use Rattle.refusals.specs.declared.Refusal.the-variants.{StoreLength, TableLength, NormalLength, OverlayLength, OutputLength, BelowActive, AboveTotal, BadState}
 use Rattle.registers.specs.Store.{storeLength}
 use Rattle.setup.specs.declared.controls.Controls.{Controls}
