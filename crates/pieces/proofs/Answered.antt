@@ -12,12 +12,15 @@ use Rattle.rules.specs.Lists.{joined}
 use Rattle.rules.proofs.Faults.{none-holds}
 use Rattle.registers.specs.Store.{storeLength}
 use Rattle.history.specs.Calls.{after}
+use Rattle.records.specs.Tags.{longestTable, longestNormal, longestOverlay}
 use Rattle.listing.specs.Text.{refused, text}
+use Rattle.answers.specs.Came.{Came, listed, waits, stopped}
+use Rattle.rooms.specs.Rooms.{longestLine, tooMuchHeld, roomFaults}
 use Rattle.session.specs.Held.{Held, empty}
-use Rattle.session.specs.Record.{Came, listed, waits, stopped, stepped}
+use Rattle.session.specs.Record.{stepped}
 use Rattle.session.specs.Listing.{listing}
 use Rattle.session.specs.Lent.{Rooms, heldIn, laid, roomsWith, sessionOf}
-use Rattle.session.specs.Step.{tableRoom, normalRoom, overlayRoom, outputRoom, tooMuchHeld, roomFaults, stepFaults, Left, afterStep, sessionStep}
+use Rattle.session.specs.Step.{stepFaults, Left, afterStep, sessionStep}
 use Rattle.session.specs.Inner.{Within}
 use Rattle.session.specs.declared.session.Session.{Session}
 use Rattle.pieces.specs.Steps.{none, Steps}
@@ -42,19 +45,19 @@ roomy-clear {session} {rooms} ready =
     let inside = ready .within in
     let roomy = ready .roomy in (
       rw (
-        le-ltb tableRoom (session .table) (omega (arith, right .table-long, inside .table-within)),
-        le-ltb normalRoom (session .normal) (omega (arith, right .normal-long, inside .normal-within)),
-        le-ltb overlayRoom (session .overlay) (omega (arith, right .overlay-long, inside .overlay-within)),
+        le-ltb longestTable (session .table) (omega (arith, right .table-long, inside .table-within)),
+        le-ltb longestNormal (session .normal) (omega (arith, right .normal-long, inside .normal-within)),
+        le-ltb longestOverlay (session .overlay) (omega (arith, right .overlay-long, inside .overlay-within)),
       ) refl,
       (
         rw (eq-eqb (length (rooms .store)) storeLength (roomy .store-long)) refl,
         (
-          rw (eq-eqb (length (rooms .table)) tableRoom (right .table-long)) refl,
+          rw (eq-eqb (length (rooms .table)) longestTable (right .table-long)) refl,
           (
-            rw (eq-eqb (length (rooms .normal)) normalRoom (right .normal-long)) refl,
+            rw (eq-eqb (length (rooms .normal)) longestNormal (right .normal-long)) refl,
             (
-              rw (eq-eqb (length (rooms .overlay)) overlayRoom (right .overlay-long)) refl,
-              (rw (eq-eqb (length (rooms .output)) outputRoom (roomy .output-long)) refl, tt),
+              rw (eq-eqb (length (rooms .overlay)) longestOverlay (right .overlay-long)) refl,
+              (rw (eq-eqb (length (rooms .output)) longestLine (roomy .output-long)) refl, tt),
             ),
           ),
         ),

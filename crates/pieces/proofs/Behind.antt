@@ -13,8 +13,9 @@ use Rattle.records.specs.declared.record.Found.the-variants.{Is, Refused}
 use Rattle.records.proofs.Answers.{found-is}
 use Rattle.records.proofs.Accepted.{found-accepted}
 use Rattle.records.proofs.Behind.{body-kept, found-behind}
+use Rattle.answers.specs.Came.{waits}
 use Rattle.session.specs.Held.{Held}
-use Rattle.session.specs.Record.{waits, cameBy, contextOf, stepped}
+use Rattle.session.specs.Record.{cameBy, contextOf, stepped}
 use Rattle.pieces.specs.Steps.{none}
 use Rattle.pieces.proofs.Step.{Stepped, lists, ends, lacks, stops, by-found, step}
 

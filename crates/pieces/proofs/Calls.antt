@@ -5,13 +5,14 @@ use mathlib.Core.Bool.{Bool, false}
 use mathlib.Core.List.{List, [], _++_}
 use lib.ListN.{length, take, drop}
 use lib.Seq.{take-at, drop-drop}
-use Rattle.rules.specs.Rule.{Outcome, ok, refused as declined}
+use Rattle.rules.specs.Rule.{Outcome, ok}
 use Rattle.rules.specs.Faults.{Numbered}
 use Rattle.rules.specs.Lists.{joined}
 use Rattle.rules.proofs.Faults.{none-holds, accepted-clear}
 use Rattle.listing.specs.Text.{refused, text}
+use Rattle.answers.specs.Came.{Came, listed}
 use Rattle.session.specs.Held.{Held, empty}
-use Rattle.session.specs.Record.{Came, listed, stepped}
+use Rattle.session.specs.Record.{stepped}
 use Rattle.session.specs.Listing.{listing}
 use Rattle.session.specs.Lent.{Rooms, heldIn, laid, roomsWith, sessionOf}
 use Rattle.session.specs.Step.{stepFaults, Left, afterStep, sessionStep}
@@ -29,11 +30,6 @@ there-again room bytes = take-at bytes (drop (length bytes) room) (length bytes)
 -- what is held, put into rooms, is held there
 pub held-again : (rooms : Rooms) (held : Held) → heldIn (sessionOf held) (roomsWith rooms held) ≡ held
 held-again rooms held = rw (there-again (rooms .table) (held .table), there-again (rooms .normal) (held .normal), there-again (rooms .overlay) (held .overlay)) refl
-
--- what an answer comes to, where it is no refusal
-abbrev pub came-of : Came → Outcome Numbered Came → Came
-came-of other (ok came) = came
-came-of other (declined refusal) = other
 
 module _ (session : Session) (rooms : Rooms) (bytes : List ℕ) (place : ℕ) (last : Bool) {left : Left} {came : Came}
     (is : sessionStep session rooms bytes place last ≡ (left, ok came)) where

@@ -10,8 +10,9 @@ use Rattle.rules.specs.Faults.{Numbered}
 use Rattle.rules.specs.Lists.{joined}
 use Rattle.rules.proofs.Cases.{impossible}
 use Rattle.listing.specs.Text.{Listed, refused, text}
+use Rattle.answers.specs.Came.{Came, listed, ended, waits, stopped}
 use Rattle.session.specs.Held.{Held, empty}
-use Rattle.session.specs.Record.{Came, listed, ended, waits, stopped, stepped}
+use Rattle.session.specs.Record.{stepped}
 use Rattle.session.specs.Listing.{listingFrom, listing}
 use Rattle.pieces.specs.Steps.{none, Steps, lends, lists, ends, stops}
 use Rattle.pieces.proofs.Step.{listed-counts, listed-takes, listed-there, listed-below, never-waits}

@@ -15,8 +15,9 @@ use Rattle.records.specs.declared.record.Found.the-variants.{Is}
 use Rattle.records.proofs.Accepted.{found-accepted}
 use Rattle.records.proofs.Answers.{found-wrong, found-cut-much, found-cut, found-much, found-is}
 use Rattle.records.proofs.Judged.{Judged, faulty, waiting, cut-much, cut, much, good, judged}
+use Rattle.answers.specs.Came.{Came, listed, ended, waits, stopped}
 use Rattle.session.specs.Held.{Held}
-use Rattle.session.specs.Record.{Came, listed, ended, waits, stopped, contextOf, stepped}
+use Rattle.session.specs.Record.{contextOf, stepped}
 use Rattle.pieces.specs.Faults.{recordFaults}
 use Rattle.pieces.proofs.Step.{Stepped, lists, ends, lacks, stops, by-found, step}
 

@@ -10,13 +10,13 @@ use Rattle.records.specs.Found.{found}
 use Rattle.records.specs.declared.record.Record.the-variants.{Line}
 use Rattle.records.specs.declared.record.Found.the-variants.{Is}
 use Rattle.listing.specs.Text.{ascii, ended, spaced, pixels, text}
+use Rattle.answers.specs.Came.{textOf}
 use Rattle.setup.specs.Controls.{controlsOf}
 use Rattle.line.specs.Cells.{Lent, lentOf}
 use Rattle.line.specs.Line.{lineOf}
 use Rattle.line.specs.Drawn.{setupOf, drawn}
 use Rattle.session.specs.Held.{Held}
 use Rattle.session.specs.Record.{contextOf, stepped}
-use Rattle.session.specs.Listing.{textOf}
 use Rattle.rests.proofs.Outputs.{colours-length}
 use Rattle.pieces.proofs.Step.{by-found}
 

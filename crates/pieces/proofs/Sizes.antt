@@ -25,6 +25,7 @@ use Rattle.records.specs.declared.record.Found.the-variants.{Is, More, Refused}
 use Rattle.records.proofs.Whole.{body-long}
 use Rattle.records.proofs.Accepted.{found-accepted}
 use Rattle.records.proofs.Limits.{table-fits, normal-fits, overlay-fits}
+use Rattle.rooms.specs.Rooms.{longestLine}
 use Rattle.setup.specs.Faults.{lineFaults}
 use Rattle.setup.specs.declared.setup.Setup.{Setup}
 use Rattle.setup.proofs.Fitted.{fitted}
@@ -34,7 +35,6 @@ use Rattle.line.specs.Drawn.{setupOf, drawn}
 use Rattle.line.specs.Drawn as line
 use Rattle.session.specs.Held.{Held, empty, withChip}
 use Rattle.session.specs.Record.{acted, contextOf, stepped}
-use Rattle.session.specs.Step.{outputRoom}
 use Rattle.rests.proofs.Before.{refused-unread}
 use Rattle.rests.proofs.Answers.{state-stays}
 use Rattle.rests.proofs.Outputs.{colours-length}
@@ -49,7 +49,7 @@ empty-roomy =
       table-held = omega arith;
       normal-held = omega arith;
       overlay-held = omega arith;
-      output-long = length-replicate {A = ℕ} outputRoom 0;
+      output-long = length-replicate {A = ℕ} longestLine 0;
       state-whole = fresh-whole;
     }
 

@@ -22,8 +22,9 @@ use Rattle.records.proofs.Judged.{Judged, faulty, waiting, cut-much, cut, much,
 use Rattle.records.proofs.Accepted.{found-accepted, never-more}
 use Rattle.records.proofs.Limits.{numbered-below}
 use Rattle.listing.specs.Text.{Listed}
+use Rattle.answers.specs.Came.{listed, ended, waits, stopped}
 use Rattle.session.specs.Held.{Held}
-use Rattle.session.specs.Record.{listed, ended, waits, stopped, acted, cameBy, contextOf, stepped}
+use Rattle.session.specs.Record.{acted, cameBy, contextOf, stepped}
 
 -- ---- the four things that a step comes to
 

@@ -8,11 +8,13 @@ use Rattle.rules.specs.Rule.{ok}
 use Rattle.rules.specs.Faults.{Numbered}
 use Rattle.registers.specs.Store.{storeLength}
 use Rattle.chip.specs.State.{Whole}
+use Rattle.records.specs.Tags.{longestTable, longestNormal, longestOverlay}
 use Rattle.listing.specs.Text.{Listed, refused, text}
+use Rattle.answers.specs.Came.{listed, ended, waits, stopped}
+use Rattle.rooms.specs.Rooms.{longestLine}
 use Rattle.session.specs.Held.{Held}
-use Rattle.session.specs.Record.{listed, ended, waits, stopped}
 use Rattle.session.specs.Lent.{Rooms}
-use Rattle.session.specs.Step.{tableRoom, normalRoom, overlayRoom, outputRoom, sessionStep}
+use Rattle.session.specs.Step.{sessionStep}
 use Rattle.session.specs.declared.session.Session.{Session}
 use Rattle.pieces.specs.Steps.{none}
 
@@ -39,19 +41,19 @@ pub data Calls : Session → Rooms → List ℕ → ℕ → List (List ℕ) → 
 -- rooms at a session's start: store and output all zero
 pub record Zeroed (rooms : Rooms) : Type 0 where
   pub store-zero : rooms .store ≡ replicate storeLength 0
-  pub output-zero : rooms .output ≡ replicate outputRoom 0
+  pub output-zero : rooms .output ≡ replicate longestLine 0
 
 -- rooms of the right lengths for table and rows
 pub record RightLengths (rooms : Rooms) : Type 0 where
-  pub table-long : length (rooms .table) ≡ tableRoom
-  pub normal-long : length (rooms .normal) ≡ normalRoom
-  pub overlay-long : length (rooms .overlay) ≡ overlayRoom
+  pub table-long : length (rooms .table) ≡ longestTable
+  pub normal-long : length (rooms .normal) ≡ longestNormal
+  pub overlay-long : length (rooms .overlay) ≡ longestOverlay
 
 -- what is held has its sizes: store and output their lengths, table and rows no more than there is room for, and the state its arrays
 pub record Roomy (held : Held) : Type 0 where
   pub store-long : length (held .chip .1) ≡ storeLength
-  pub table-held : length (held .table) ≤ tableRoom
-  pub normal-held : length (held .normal) ≤ normalRoom
-  pub overlay-held : length (held .overlay) ≤ overlayRoom
-  pub output-long : length (held .output) ≡ outputRoom
+  pub table-held : length (held .table) ≤ longestTable
+  pub normal-held : length (held .normal) ≤ longestNormal
+  pub overlay-held : length (held .overlay) ≤ longestOverlay
+  pub output-long : length (held .output) ≡ longestLine
   pub state-whole : Whole (held .chip .0)

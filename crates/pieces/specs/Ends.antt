@@ -3,9 +3,10 @@ use Prim.Native.Nat.{ℕ, zero, suc, _+_}
 use mathlib.Core.Bool.{Bool, true, false, cond}
 use mathlib.Core.List.{List}
 use lib.ListN.{drop}
+use Rattle.records.specs.Tags.{mostRecords}
+use Rattle.answers.specs.Came.{Came, listed, ended, waits, stopped, goesOn}
 use Rattle.session.specs.Held.{Held, empty}
-use Rattle.session.specs.Record.{Came, listed, ended, waits, stopped, stepped}
-use Rattle.session.specs.Listing.{goesOn}
+use Rattle.session.specs.Record.{stepped}
 
 -- a step found the end record
 abbrev pub isEnd : Came → Bool
@@ -30,8 +31,8 @@ takenFrom (suc count) held bytes =
 
 -- the run over these bytes reaches its end record
 unfoldable pub reachesEnd : List ℕ → Bool
-reachesEnd file = endsFrom 1000001 empty file
+reachesEnd file = endsFrom (mostRecords + 1) empty file
 
 -- the bytes of a file up to its end record, with it
 unfoldable pub toEnd : List ℕ → ℕ
-toEnd file = takenFrom 1000001 empty file
+toEnd file = takenFrom (mostRecords + 1) empty file

@@ -6,8 +6,9 @@ use mathlib.Core.List.{List, [], _∷_, _++_}
 use lib.ListN.{drop}
 use Rattle.rules.specs.Faults.{Numbered}
 use Rattle.listing.specs.Text.{Listed, refused, text}
+use Rattle.answers.specs.Came.{listed, ended, waits, stopped}
 use Rattle.session.specs.Held.{Held}
-use Rattle.session.specs.Record.{listed, ended, waits, stopped, stepped}
+use Rattle.session.specs.Record.{stepped}
 
 -- no piece is to come: the file ends with the bytes that are lent
 abbrev pub none : List (List ℕ) → Bool

@@ -17,9 +17,10 @@ use Rattle.plain.specs.Numbers.{refusedBy}
 use Rattle.listing.specs.Text.{Listed, shown, text}
 use Rattle.listing.specs.Text as entry
 use Rattle.listing.specs.Room.{roomFor}
-use Rattle.session.specs.Record.{Came, listed, ended, waits, stopped}
+use Rattle.answers.specs.Came.{Came, listed, ended, waits, stopped}
+use Rattle.rooms.specs.Rooms.{longestLine, roomFaults}
 use Rattle.session.specs.Lent.{Rooms, laid}
-use Rattle.session.specs.Step.{outputRoom, roomFaults, stepFaults, Left, afterStep, sessionStep}
+use Rattle.session.specs.Step.{stepFaults, Left, afterStep, sessionStep}
 use Rattle.session.specs.declared.session.Session.{Session}
 use Rattle.player.specs.Steps.{textRoom, shortText, textFault, cameTo, textBy, stepAnswer, stepLeft, stepInNumbers}
 use Rattle.player.specs.Inner.{putEntry, putText, orText}
@@ -45,12 +46,12 @@ shown-short (entry.refused refusal) output = omega arith
 
 module _ (output lent : List ℕ) (long : textRoom ≤ length lent) where
   -- in a text long enough an entry has room
-  entry-put : (entry : Listed) → length output ≤ outputRoom → putEntry entry output lent ≡ (length (text entry output), laid lent (text entry output))
+  entry-put : (entry : Listed) → length output ≤ longestLine → putEntry entry output lent ≡ (length (text entry output), laid lent (text entry output))
   entry-put entry short =
       rw (le-leb (0 + roomFor entry output) (length lent) (omega (arith, shown-short entry output, short, long)), zero-add (length (text entry output))) refl
 
   -- and so has whatever a call comes to
-  text-put : (outcome : Outcome Numbered Came) → ((came : Came) → outcome ≡ ok came → length output ≤ outputRoom)
+  text-put : (outcome : Outcome Numbered Came) → ((came : Came) → outcome ≡ ok came → length output ≤ longestLine)
       → putText outcome output lent ≡ (length (textBy outcome output), laid lent (textBy outcome output))
   text-put (ok (listed entry)) short = entry-put entry (short (listed entry) refl)
   text-put (ok ended) short = refl
@@ -78,11 +79,11 @@ module _ (session : Session) (rooms : Rooms) (lent bytes : List ℕ) (place : �
       (sym (last-clear ((session, place), rooms) (afterStep session rooms bytes place last) (stepFaults session rooms) (textFault (length lent)) (le-ltb (length lent) textRoom long)))
 
   -- a step that is not refused is lent an output of its length
-  output-room : {came : Came} → sessionStep session rooms bytes place last .1 ≡ ok came → length (rooms .output) ≡ outputRoom
+  output-room : {came : Came} → sessionStep session rooms bytes place last .1 ≡ ok came → length (rooms .output) ≡ longestLine
   unfolding sessionStep roomFaults
   output-room {came} e =
-      eqb-true (length (rooms .output)) outputRoom
-      (not-false (eqb (length (rooms .output)) outputRoom)
+      eqb-true (length (rooms .output)) longestLine
+      (not-false (eqb (length (rooms .output)) longestLine)
       (accepted-clear ((session, place), rooms) (afterStep session rooms bytes place last) (stepFaults session rooms) came e .1 .1 .1 .1 .1 .0))
 
   -- a step and its text, from what the session's step and the putting of its text left

@@ -10,7 +10,7 @@ use Rattle.listing.specs.Text as entry
 use Rattle.listing.specs.Room.{rendered}
 use Rattle.listing.specs.declared.render.Rendered.{Rendered}
 use Rattle.listing.specs.declared.render.Rendered.the-variants.{To, NoRoom}
-use Rattle.session.specs.Record.{Came, listed, ended, waits, stopped}
+use Rattle.answers.specs.Came.{Came, listed, ended, waits, stopped}
 use Rattle.player.specs.Steps.{shortText}
 
 -- how many bytes were put

@@ -10,17 +10,17 @@ use Rattle.plain.specs.Numbers.{nothing, refusedBy}
 use Rattle.plain.specs.declared.Refused.{Refused}
 use Rattle.listing.specs.Text.{Listed}
 use Rattle.listing.specs.Text as entry
-use Rattle.session.specs.Record.{Came, listed, ended, waits, stopped}
-use Rattle.session.specs.Listing.{textOf}
+use Rattle.answers.specs.Came.{Came, listed, ended, waits, stopped, textOf}
+use Rattle.rooms.specs.Rooms.{longestLine}
 use Rattle.session.specs.Lent.{Rooms, laid}
-use Rattle.session.specs.Step.{outputRoom, stepFaults, Left, afterStep}
+use Rattle.session.specs.Step.{stepFaults, Left, afterStep}
 use Rattle.session.specs.declared.session.Session.{Session}
 use Rattle.player.specs.declared.steps.CameTo.{CameTo}
 use Rattle.player.specs.declared.steps.Stepped.{Stepped}
 
 -- the bytes in which every entry's text has room: 32, and 7 for each pixel of the longest line
 abbrev pub textRoom : ℕ
-textRoom = 32 + 7 * outputRoom
+textRoom = 32 + 7 * longestLine
 
 -- a text too short is 5 at place 6
 abbrev pub shortText : Numbered

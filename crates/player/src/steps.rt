@@ -1,16 +1,16 @@
 // What C calls on a session: one record at a time, and its text.
 ghost use mathlib.Core.Path.{_≡_};
 ghost use mathlib.Core.Bool.{not};
-ghost use mathlib.Core.List.{_∷_};
 ghost use lib.Dec.{eqb};
 ghost use Rattle.rules.specs.Checked.{verdict};
-ghost use Rattle.refusals.specs.Refusal.{fault};
 ghost use Rattle.listing.specs.Text.{said};
+ghost use Rattle.answers.specs.Came.{told};
+ghost use Rattle.rooms.specs.Rooms.{lentFaults};
 ghost use Rattle.session.specs.Held.{empty};
 ghost use Rattle.session.specs.Lent.{roomsOf, sessionOf};
-ghost use Rattle.session.specs.Step.{tooMuchHeld, roomFaults, told};
 ghost use Rattle.player.specs.Steps.{entryRefusal, cameTo, stepInNumbers};
 ghost use Rattle.player.specs.Inner.{putEntry, putText, orText};
+use answers::Answer;
 use listing::entry::Entry;
 use listing::render::Rendered;
 use listing::render::render;
@@ -19,10 +19,9 @@ use plain::nothing;
 use plain::refused_by;
 use refusals::Fit;
 use refusals::Refusal;
-use session::fit::Counts;
-use session::fit::fit;
+use rooms::Counts;
+use rooms::fit;
 use session::session::Session;
-use session::step::Answer;
 use session::step::step;
 
 // What a step answers: where the next record starts, how many bytes of text were put, the refusal, and what it comes to.
@@ -121,7 +120,7 @@ fn short_of_text(
     overlay: usize,
     output: usize,
 ) -> Refused
-    ensures { λ r. ⌜ r ≡ orText (verdict (fault Refusal.BadState (tooMuchHeld (held .table) (held .normal) (held .overlay)) ∷ roomFaults store table normal overlay output)) ⌝ }
+    ensures { λ r. ⌜ r ≡ orText (verdict (lentFaults held store table normal overlay output)) ⌝ }
 {
     let fits = fit(held, store, table, normal, overlay, output);
     match fits {

@@ -3,7 +3,7 @@ use Prim.Native.Nat.{ℕ, _+_}
 use mathlib.Core.Bool.{Bool, not, _&&_, _||_}
 use mathlib.Core.List.{List}
 use lib.Dec.{eqb, leb, ltb}
-use Rattle.records.specs.Tags.{known, allows}
+use Rattle.records.specs.Tags.{longestTable, mostDots, mostRecords, known, allows}
 use Rattle.records.specs.Parts.{there, tagOf, lengthOf, inBody}
 use Rattle.records.specs.declared.record.Context.{Context}
 
@@ -17,7 +17,7 @@ wrongLength bytes = there bytes 3 && not (allows (tagOf bytes) (lengthOf bytes))
 
 -- all of a count of dots is there, and it is above 16,777,216
 abbrev pub tooManyDots : List ℕ → Bool
-tooManyDots bytes = there bytes 7 && eqb (tagOf bytes) 2 && ltb 16777216 (inBody bytes 0 4)
+tooManyDots bytes = there bytes 7 && eqb (tagOf bytes) 2 && ltb mostDots (inBody bytes 0 4)
 
 -- 12
 unfoldable pub wrong : List ℕ → Bool
@@ -25,11 +25,11 @@ wrong bytes = unknownTag bytes || wrongLength bytes || tooManyDots bytes
 
 -- the tag is there, and 1,000,000 records stand before it
 abbrev pub tooManyRecords : ℕ → List ℕ → Bool
-tooManyRecords number bytes = there bytes 1 && leb 1000000 number
+tooManyRecords number bytes = there bytes 1 && leb mostRecords number
 
 -- table bytes whose length is there, and with which the table has more than 65,536
 abbrev pub tooLongTable : ℕ → List ℕ → Bool
-tooLongTable table bytes = there bytes 3 && eqb (tagOf bytes) 3 && ltb 65536 (table + lengthOf bytes)
+tooLongTable table bytes = there bytes 3 && eqb (tagOf bytes) 3 && ltb longestTable (table + lengthOf bytes)
 
 -- 14
 unfoldable pub tooMuch : Context → List ℕ → Bool

@@ -8,9 +8,9 @@ use crate::input::read_on;
 use crate::rooms;
 use crate::text::put_entry;
 use crate::text::write_out;
-use session::answers::Shows;
+use answers::Answer;
+use answers::Shows;
 use session::session::Session;
-use session::step::Answer;
 use session::step::Stepped;
 use session::step::step;
 

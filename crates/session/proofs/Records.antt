@@ -11,10 +11,11 @@ use Rattle.chip.specs.Dots.{ran}
 use Rattle.records.specs.declared.record.Record.the-variants.{End, Write, Dots, Table, Normal, Overlay, Line}
 use Rattle.listing.specs.Text.{line}
 use Rattle.listing.specs.Text.{ok as done}
+use Rattle.answers.specs.Came.{Came, listed, ended}
 use Rattle.setup.specs.Controls.{controlsOf}
 use Rattle.line.specs.Cells.{lentOf}
 use Rattle.line.specs.Drawn.{drawn}
-use Rattle.session.specs.Record.{Came, listed, ended, entryOf, atPosition}
+use Rattle.session.specs.Record.{entryOf, atPosition}
 use Rattle.session.specs.Lent.{Rooms, roomsOf, heldIn}
 use Rattle.session.specs.Inner.{withCounts, counted, askedIn, Within, actedIn}
 use Rattle.session.specs.declared.session.Session.{Session}

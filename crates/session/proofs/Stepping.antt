@@ -18,6 +18,7 @@ use Rattle.refusals.specs.Refusal.{numbered}
 use Rattle.refusals.specs.declared.Refusal.{Refusal}
 use Rattle.records.specs.Parts.{lengthOf, bodyOf}
 use Rattle.records.specs.Found.{found}
+use Rattle.records.specs.Tags.{longestTable, longestNormal, longestOverlay}
 use Rattle.records.specs.declared.record.Record.{Record}
 use Rattle.records.specs.declared.record.Record.the-variants.{End, Write, Dots, Table, Normal, Overlay, Line}
 use Rattle.records.specs.declared.record.Context.{Context}
@@ -26,22 +27,24 @@ use Rattle.records.specs.declared.record.Found.the-variants.{Is, More, Refused}
 use Rattle.records.proofs.Tests.{neither}
 use Rattle.records.proofs.Behind.{judgedAt}
 use Rattle.records.proofs.Limits.{table-fits, normal-fits, overlay-fits}
+use Rattle.answers.specs.Came.{Came, waits, stopped}
+use Rattle.rooms.specs.Rooms.{tooMuchHeld, roomFaults}
 use Rattle.session.specs.Held.{Held}
-use Rattle.session.specs.Record.{Came, waits, stopped, cameBy, contextOf, stepped}
+use Rattle.session.specs.Record.{cameBy, contextOf, stepped}
 use Rattle.session.specs.Lent.{Rooms, heldIn, leftIn}
-use Rattle.session.specs.Step.{tableRoom, normalRoom, overlayRoom, tooMuchHeld, roomFaults, stepFaults, Left, afterStep, sessionStep}
+use Rattle.session.specs.Step.{stepFaults, Left, afterStep, sessionStep}
 use Rattle.session.specs.Inner.{Within, Fits, actedIn}
 use Rattle.session.specs.declared.session.Session.{Session}
 use Rattle.session.proofs.Rooms.{table-count, back}
 
 -- what a step that may go on is lent
 pub record Fitted (session : Session) (rooms : Rooms) : Type 0 where
-  pub table-held : session .table ≤ tableRoom
-  pub normal-held : session .normal ≤ normalRoom
-  pub overlay-held : session .overlay ≤ overlayRoom
-  pub table-long : length (rooms .table) ≡ tableRoom
-  pub normal-long : length (rooms .normal) ≡ normalRoom
-  pub overlay-long : length (rooms .overlay) ≡ overlayRoom
+  pub table-held : session .table ≤ longestTable
+  pub normal-held : session .normal ≤ longestNormal
+  pub overlay-held : session .overlay ≤ longestOverlay
+  pub table-long : length (rooms .table) ≡ longestTable
+  pub normal-long : length (rooms .normal) ≡ longestNormal
+  pub overlay-long : length (rooms .overlay) ≡ longestOverlay
 
 -- a room of no other length has this one
 right-room : (size count : ℕ) → not (eqb size count) ≡ false → size ≡ count
@@ -53,12 +56,12 @@ module _ (session : Session) (rooms : Rooms) where
   unfolding roomFaults tooMuchHeld
   fitted e =
       let clear = clear-verdict (stepFaults session rooms) e in
-      let rows = neither (ltb tableRoom (session .table) || ltb normalRoom (session .normal)) (ltb overlayRoom (session .overlay)) (clear .0) in
-      let first = neither (ltb tableRoom (session .table)) (ltb normalRoom (session .normal)) (rows .0) in
+      let rows = neither (ltb longestTable (session .table) || ltb longestNormal (session .normal)) (ltb longestOverlay (session .overlay)) (clear .0) in
+      let first = neither (ltb longestTable (session .table)) (ltb longestNormal (session .normal)) (rows .0) in
       record {
-        table-held = ltb-false tableRoom (session .table) (first .0);
-        normal-held = ltb-false normalRoom (session .normal) (first .1);
-        overlay-held = ltb-false overlayRoom (session .overlay) (rows .1);
+        table-held = ltb-false longestTable (session .table) (first .0);
+        normal-held = ltb-false longestNormal (session .normal) (first .1);
+        overlay-held = ltb-false longestOverlay (session .overlay) (rows .1);
         table-long = right-room _ _ (clear .1 .1 .0);
         normal-long = right-room _ _ (clear .1 .1 .1 .0);
         overlay-long = right-room _ _ (clear .1 .1 .1 .1 .0);

@@ -5,6 +5,7 @@ use lib.ListN.{replicate}
 use Rattle.registers.specs.Store.{storeLength}
 use Rattle.chip.specs.State.{fresh}
 use Rattle.chip.specs.Call.{Chip}
+use Rattle.rooms.specs.Rooms.{longestLine}
 
 -- the chip, the bytes of the ID table, of the normal row and of the overlay row, the words of the output, and how many records stood before the next one
 pub record Held : Type 0 where
@@ -23,7 +24,7 @@ empty =
       table = [];
       normal = [];
       overlay = [];
-      output = replicate 2048 0;
+      output = replicate longestLine 0;
       records = 0;
     }
 

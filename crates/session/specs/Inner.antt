@@ -2,15 +2,15 @@
 use Prim.Native.Nat.{ℕ, _+_, _≤_}
 use mathlib.Core.List.{List}
 use lib.ListN.{length}
-use Rattle.rules.specs.Rule.{Outcome, ok, refused}
+use Rattle.rules.specs.Rule.{Outcome, ok}
 use Rattle.rules.specs.Faults.{Numbered}
-use Rattle.refusals.specs.Refusal.{numbered}
 use Rattle.chip.specs.Call.{Chip}
 use Rattle.chip.specs.declared.state.State.{State}
 use Rattle.records.specs.declared.record.Record.{Record}
 use Rattle.records.specs.declared.record.Record.the-variants.{End, Write, Dots, Table, Normal, Overlay, Line}
 use Rattle.listing.specs.Text.{Listed}
-use Rattle.session.specs.Record.{Came, listed, entryOf, acted}
+use Rattle.answers.specs.Came.{Came, listed}
+use Rattle.session.specs.Record.{entryOf, acted}
 use Rattle.session.specs.Lent.{Rooms, heldIn, leftIn}
 use Rattle.session.specs.declared.session.Session.{Session}
 

@@ -3,5 +3,4 @@ pub mod Record
 pub mod Listing
 pub mod Lent
 pub mod Step
-pub mod Answers
 pub mod Inner

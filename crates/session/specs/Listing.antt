@@ -1,26 +1,12 @@
 -- The listing of a file.
-use Prim.Native.Nat.{ℕ, zero, suc}
-use mathlib.Core.Bool.{Bool, true, false, cond}
+use Prim.Native.Nat.{ℕ, zero, suc, _+_}
+use mathlib.Core.Bool.{true, cond}
 use mathlib.Core.List.{List, [], _++_}
 use lib.ListN.{drop}
-use Rattle.listing.specs.Text.{text}
-use Rattle.listing.specs.Text as entry
+use Rattle.records.specs.Tags.{mostRecords}
+use Rattle.answers.specs.Came.{textOf, goesOn}
 use Rattle.session.specs.Held.{Held, empty}
-use Rattle.session.specs.Record.{Came, listed, ended, waits, stopped, stepped}
-
--- the text of what a step comes to; a file's fault is listed too
-abbrev pub textOf : List ℕ → Came → List ℕ
-textOf output (listed entry) = text entry output
-textOf output ended = []
-textOf output waits = []
-textOf output (stopped refusal) = text (entry.refused refusal) output
-
--- the run goes on after it
-abbrev pub goesOn : Came → Bool
-goesOn (listed entry) = true
-goesOn ended = false
-goesOn waits = false
-goesOn (stopped refusal) = false
+use Rattle.session.specs.Record.{stepped}
 
 -- the text of at most so many further records
 abbrev pub listingFrom : ℕ → Held → List ℕ → List ℕ
@@ -32,4 +18,4 @@ listingFrom (suc count) held bytes =
 
 -- the listing: there are at most 1,000,000 records, and one that is too much
 unfoldable pub listing : List ℕ → List ℕ
-listing file = listingFrom 1000001 empty file
+listing file = listingFrom (mostRecords + 1) empty file

@@ -21,17 +21,11 @@ use Rattle.records.specs.declared.record.Found.{Found}
 use Rattle.records.specs.declared.record.Found.the-variants.{Is, More, Refused}
 use Rattle.listing.specs.Text.{Listed, at, line}
 use Rattle.listing.specs.Text as text
+use Rattle.answers.specs.Came.{Came, listed, ended, waits, stopped}
 use Rattle.setup.specs.Controls.{controlsOf}
 use Rattle.line.specs.Cells.{lentOf}
 use Rattle.line.specs.Drawn.{drawn}
 use Rattle.session.specs.Held.{Held, withChip, withTable, withNormal, withOverlay, withLine}
-
--- what a step comes to: an entry of the listing, the end, a wait for more bytes, or a fault of the file
-pub data Came : Type 0 where
-  listed : Listed → Came
-  ended : Came
-  waits : Came
-  stopped : Numbered → Came
 
 -- the entry of a call: this one where it is done, else its refusal
 abbrev pub entryOf : {A : Type 0} → Listed → Outcome Numbered A → Listed

@@ -1,7 +1,5 @@
 // A recorded session: what it holds, and one record of it at a time.
 mod acts;
-pub mod answers;
-pub mod fit;
 mod keep;
 pub mod session;
 pub mod step;

@@ -1,25 +1,15 @@
 // One record of a session.
 ghost use mathlib.Core.Path.{_≡_};
+ghost use Rattle.answers.specs.Came.{told};
 ghost use Rattle.session.specs.Lent.{roomsOf};
-ghost use Rattle.session.specs.Step.{told, sessionStep};
-use crate::fit::Counts;
-use crate::fit::fit;
+ghost use Rattle.session.specs.Step.{sessionStep};
 use crate::session::Session;
-use listing::entry::Entry;
+use answers::Answer;
 use records::record::Context;
 use records::record::Found;
 use refusals::Fit;
-use refusals::Refusal;
-
-// What a step answers: a record's entry in the listing, that the end record is reached, that the bytes end within a record and the file goes on, a
-// fault of the file, which stops the run, or the refusal of a call that is lent the wrong things.
-pub enum Answer {
-    Listed(Entry),
-    End,
-    More,
-    Stopped(Refusal),
-    Refused(Refusal),
-}
+use rooms::Counts;
+use rooms::fit;
 
 // The session that a step hands back, the place of the next record, and the answer.
 pub struct Stepped {

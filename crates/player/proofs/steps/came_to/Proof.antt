@@ -1,8 +1,8 @@
 -- `player::steps::came_to` meets its contract: the answer, case by case. Assumes nothing.
 use mathlib.Core.Path.{ap, sym, _≡_}
 use borrow.Author.Needs.{needs}
-use Rattle.session.specs.Step.{told}
-use Rattle.session.specs.declared.step.Answer.{Answer}
+use Rattle.answers.specs.Came.{told}
+use Rattle.answers.specs.declared.Answer.{Answer}
 use Rattle.player.specs.Steps.{cameTo}
 use Rattle.player.proofs.steps.came_to.Statement.{statement}
 use Rattle.player.proofs.steps.came_to.Tie as tie

@@ -2,8 +2,8 @@
 use mathlib.Core.Path.{ap, sym, _∙_}
 use borrow.Author.Needs.{needs}
 use denote.Ref.{now}
-use Rattle.session.specs.Step.{told}
-use Rattle.session.specs.declared.step.Answer.{Answer}
+use Rattle.answers.specs.Came.{told}
+use Rattle.answers.specs.declared.Answer.{Answer}
 use Rattle.player.specs.Inner.{putText}
 use Rattle.player.proofs.steps.put_text.Statement.{statement}
 use Rattle.player.proofs.steps.put_text.Tie as tie

@@ -1,11 +1,22 @@
-// What a step's answer asks of whoever called it.
+// What a step of a session answers, and what that asks of whoever called it.
 ghost use mathlib.Core.Path.{_≡_};
-ghost use Rattle.session.specs.Answers.{shows, over};
-use crate::step::Answer;
+ghost use Rattle.answers.specs.Answers.{shows, over};
+use listing::entry::Entry;
+use refusals::Refusal;
+
+// What a step answers: a record's entry in the listing, that the end record is reached, that the bytes end within a record and the file goes on, a
+// fault of the file, which stops the run, or the refusal of a call that is lent the wrong things.
+pub enum Answer {
+    Listed(Entry),
+    End,
+    More,
+    Stopped(Refusal),
+    Refused(Refusal),
+}
 
 // What an answer adds to the listing.
 pub enum Shows {
-    Entry(listing::entry::Entry),
+    Entry(Entry),
     Nothing,
 }
 
@@ -18,8 +29,8 @@ impl Answer {
             Answer::Listed(entry) => Shows::Entry(entry),
             Answer::End => Shows::Nothing,
             Answer::More => Shows::Nothing,
-            Answer::Stopped(refusal) => Shows::Entry(listing::entry::Entry::Refused(refusal)),
-            Answer::Refused(refusal) => Shows::Entry(listing::entry::Entry::Refused(refusal)),
+            Answer::Stopped(refusal) => Shows::Entry(Entry::Refused(refusal)),
+            Answer::Refused(refusal) => Shows::Entry(Entry::Refused(refusal)),
         }
     }
 

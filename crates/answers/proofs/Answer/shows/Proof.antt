@@ -1,9 +1,9 @@
--- `session::step::Answer::shows` meets its contract, case by case. Assumes nothing.
+-- `answers::Answer::shows` meets its contract, case by case. Assumes nothing.
 use mathlib.Core.Path.{ap, sym}
 use borrow.Author.Needs.{needs}
-use Rattle.session.specs.Answers.{shows}
-use Rattle.session.proofs.step.Answer.shows.Statement.{statement}
-use Rattle.session.proofs.step.Answer.shows.Tie as tie
+use Rattle.answers.specs.Answers.{shows}
+use Rattle.answers.proofs.Answer.shows.Statement.{statement}
+use Rattle.answers.proofs.Answer.shows.Tie as tie
 
 enum-known-self : tie.Need-enum-known-self
 enum-known-self c = search needs

@@ -1,8 +1,8 @@
--- `session::fit::fit` meets its contract: 11, and then the rooms. Assumes nothing.
+-- `rooms::fit` meets its contract: 11, and then the rooms. Assumes nothing.
 use mathlib.Core.Path.{refl, sym, _∙_}
 use borrow.Author.Needs.{needs}
-use Rattle.session.proofs.fit.fit.Statement.{statement}
-use Rattle.session.proofs.fit.fit.Tie as tie
+use Rattle.rooms.proofs.fit.Statement.{statement}
+use Rattle.rooms.proofs.fit.Tie as tie
 
 too-much-held-requires : tie.Need-too-much-held-requires
 too-much-held-requires c κs = search needs

@@ -1,9 +1,8 @@
-// Whether a step may go on with what it is lent.
+// What a step of a session is lent: how much is held, and how long each room is.
 ghost use mathlib.Core.Path.{_≡_};
-ghost use mathlib.Core.List.{_∷_};
 ghost use Rattle.rules.specs.Checked.{verdict};
-ghost use Rattle.refusals.specs.Refusal.{fault, fitTold};
-ghost use Rattle.session.specs.Step.{tooMuchHeld, roomFaults};
+ghost use Rattle.refusals.specs.Refusal.{fitTold};
+ghost use Rattle.rooms.specs.Rooms.{tooMuchHeld, roomFaults, lentFaults};
 use refusals::Fit;
 use refusals::Refusal;
 
@@ -49,7 +48,7 @@ fn rooms_fit(store: usize, table: usize, normal: usize, overlay: usize, output: 
     Fit::Yes
 }
 
-// 11, and then 5.
+// Whether a step may go on with what it is lent: 11, and then 5.
 pub fn fit(
     held: Counts,
     store: usize,
@@ -58,7 +57,7 @@ pub fn fit(
     overlay: usize,
     output: usize,
 ) -> Fit
-    ensures { λ r. ⌜ fitTold r ≡ verdict (fault Refusal.BadState (tooMuchHeld (held .table) (held .normal) (held .overlay)) ∷ roomFaults store table normal overlay output) ⌝ }
+    ensures { λ r. ⌜ fitTold r ≡ verdict (lentFaults held store table normal overlay output) ⌝ }
 {
     if too_much_held(held.table, held.normal, held.overlay) {
         return Fit::Refused(Refusal::BadState);

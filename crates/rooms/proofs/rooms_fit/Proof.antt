@@ -1,9 +1,9 @@
--- `session::fit::rooms_fit` meets its contract: each length in the order of the places. Assumes nothing.
+-- `rooms::rooms_fit` meets its contract: each length in the order of the places. Assumes nothing.
 use mathlib.Core.Path.{refl}
 use borrow.Author.Tests.{eq-eqb, ne-eqb}
-use Rattle.session.specs.Step.{roomFaults}
-use Rattle.session.proofs.fit.rooms_fit.Statement.{statement}
-use Rattle.session.proofs.fit.rooms_fit.Tie as tie
+use Rattle.rooms.specs.Rooms.{roomFaults}
+use Rattle.rooms.proofs.rooms_fit.Statement.{statement}
+use Rattle.rooms.proofs.rooms_fit.Tie as tie
 
 returns : tie.Need-returns
 unfolding roomFaults

@@ -1,9 +1,9 @@
--- `session::fit::too_much_held` meets its contract, test by test. Assumes nothing.
+-- `rooms::too_much_held` meets its contract, test by test. Assumes nothing.
 use mathlib.Core.Path.{refl}
 use borrow.Author.Tests.{lt-ltb, le-ltb}
-use Rattle.session.specs.Step.{tooMuchHeld}
-use Rattle.session.proofs.fit.too_much_held.Statement.{statement}
-use Rattle.session.proofs.fit.too_much_held.Tie as tie
+use Rattle.rooms.specs.Rooms.{tooMuchHeld}
+use Rattle.rooms.proofs.too_much_held.Statement.{statement}
+use Rattle.rooms.proofs.too_much_held.Tie as tie
 
 returns : tie.Need-returns
 unfolding tooMuchHeld

@@ -1,10 +1,10 @@
 -- What a step's answer asks of whoever called it.
 use mathlib.Core.Bool.{Bool, true, false}
 use Rattle.listing.specs.declared.entry.Entry.the-variants.{Refused as RefusedEntry}
-use Rattle.session.specs.declared.step.Answer.{Answer}
-use Rattle.session.specs.declared.step.Answer.the-variants.{Listed, End, More, Stopped, Refused}
-use Rattle.session.specs.declared.answers.Shows.{Shows}
-use Rattle.session.specs.declared.answers.Shows.the-variants.{Entry, Nothing}
+use Rattle.answers.specs.declared.Answer.{Answer}
+use Rattle.answers.specs.declared.Answer.the-variants.{Listed, End, More, Stopped, Refused}
+use Rattle.answers.specs.declared.Shows.{Shows}
+use Rattle.answers.specs.declared.Shows.the-variants.{Entry, Nothing}
 
 -- what it shows: its entry, nothing at the end and where it waits, the refusal where it is one
 abbrev pub shows : Answer → Shows
