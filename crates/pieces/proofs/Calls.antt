@@ -11,6 +11,7 @@ use Rattle.rules.specs.Lists.{joined}
 use Rattle.rules.proofs.Faults.{none-holds, accepted-clear}
 use Rattle.listing.specs.Text.{refused, text}
 use Rattle.answers.specs.Came.{Came, listed}
+use Rattle.answers.proofs.ToListing.{came-of}
 use Rattle.session.specs.Held.{Held, empty}
 use Rattle.session.specs.Record.{stepped}
 use Rattle.session.specs.Listing.{listing}

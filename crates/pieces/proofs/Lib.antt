@@ -9,3 +9,4 @@ pub mod Exact
 pub mod Ends
 pub mod Lines
 pub mod Answers
+pub mod Among
