@@ -20,17 +20,22 @@ depthOf word = cond (switch word 4) 32 16
 unfoldable pub controlsOf : List ℕ → Controls
 controlsOf control =
     record {
+      -- word 0: the switches of overlay, ID table, cursor and cross-hair, and the depth
       overlay = switch (getD control 0 0) 0;
       ids = switch (getD control 0 0) 1;
       cursor = switch (getD control 0 0) 2;
       crosshair = switch (getD control 0 0) 3;
       depth = depthOf (getD control 0 0);
+      -- word 1: total width and total lines
       columns = totalWidth (getD control 1 0);
       lines = totalLines (getD control 1 0);
+      -- word 6: x and y of the active origin
       left = field (getD control 6 0) 11 0;
       top = field (getD control 6 0) 27 16;
+      -- word 7: active width and height
       width = field (getD control 7 0) 10 0 + 1;
       height = field (getD control 7 0) 26 16 + 1;
+      -- word 8: x and y of the cursor
       cx = field (getD control 8 0) 11 0;
       cy = field (getD control 8 0) 27 16;
     }
