@@ -145,9 +145,11 @@ module _ (setup : Setup) (lent : Lent) where
 
   module _ {refusal : Numbered} (lacks : NoFrame refusal) where
     -- the refusal is 7
-    pub frame-refusal : refusal ≡ numbered (NoFrameEntry (setup .y))
+    pub frame-number : refusal .number ≡ 7
     unfolding lineTableOf
-    frame-refusal = refusal-named (tableView (lent .table)) (numbered (NoFrameEntry (setup .y))) yend lineTable (frameEntries (setup .lengths .table)) (setup .y) (lacks .none)
+    frame-number =
+        ap (λ (told : Numbered). told .number)
+        (refusal-named (tableView (lent .table)) (numbered (NoFrameEntry (setup .y))) yend lineTable (frameEntries (setup .lengths .table)) (setup .y) (lacks .none))
 
     -- all ends are read, and nothing else
     pub no-frame-read : {cell : Cell} → Among cell (reads (view lent) starting) → NoFrameListed setup lent cell

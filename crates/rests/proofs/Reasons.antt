@@ -52,10 +52,11 @@ module _ {R Q A : Type 0} (memory : Q → ℕ) (rule : ℕ → Rule R Q A) where
 module _ (setup : Setup) (lent : Lent) where
   -- ---- a line that is refused has its reason
 
-  -- a window entry that refuses is undefined
-  says-undefined : (x : ℕ) (entry : Decoded) {refusal : Numbered} → run (view lent) (definedAt x entry) ≡ refused refusal → entry ≡ Undefined
+  -- a window entry that refuses is undefined, and refuses by 9 at the pixel
+  says-undefined : (x : ℕ) (entry : Decoded) {refusal : Numbered} → run (view lent) (definedAt x entry) ≡ refused refusal
+      → (entry ≡ Undefined) × (refusal ≡ numbered (UndefinedEntry x))
   says-undefined x (Defined entry) e = impossible (cc)
-  says-undefined x Undefined e = refl
+  says-undefined x Undefined e = (refl, cc)
 
   module _ (clear : Clear (lineFaults setup)) where
     -- without a line table: 7
@@ -69,19 +70,15 @@ module _ (setup : Setup) (lent : Lent) where
       for-pixel : (x : ℕ) {refusal : Numbered} → ComesTo setup lent x → run (view lent) (entering setup lent start x) ≡ refused refusal
           → RefusedPixel setup lent start x refusal → Reason setup lent refusal
       unfolding entryAt
-      for-pixel x comes stops (without-id lacks is) =
+      for-pixel x comes stops (without-id lacks is place) =
           let none = id-unanswered (tableView (lent .table)) (setup .lengths .table) start x (lacks .none) in
           no-line-entry clear x comes
           (record { start = start; starts = starts-at setup lent (lacks .on) started; short = λ number below. none .short .each number (omega arith) below })
-          is
-      for-pixel x comes stops (undefined id found is) =
+          (none .named)
+      for-pixel x comes stops (undefined id found is place) =
+          let says = says-undefined x _ (sym (run-ok (view lent) (identifying setup lent start x) _ found) ∙ stops) in
           undefined-entry clear x comes
-          (record {
-            id = id;
-            has = run-ok (view lent) (starting setup lent) _ started ∙ found;
-            says = says-undefined x _ (sym (run-ok (view lent) (identifying setup lent start x) _ found) ∙ stops);
-          })
-          is
+          (record { id = id; has = run-ok (view lent) (starting setup lent) _ started ∙ found; says = says .0 }) (says .1)
 
       -- the line comes to the pixel at which the pass stops
       for-pass : {refusal : Numbered} → StopsAt (view lent) (entering setup lent start) (setup .controls .width) 0 refusal → Reason setup lent refusal
