@@ -14,15 +14,15 @@ use Rattle.colour.specs.declared.entry.Decoded.{Decoded}
 use Rattle.colour.specs.declared.entry.Decoded.the-variants.{Defined, Undefined}
 use Rattle.colour.specs.declared.entry.Entry.{Entry}
 use Rattle.windows.specs.Table.{TableCell, tableView}
-use Rattle.windows.specs.Ids.{lineEntries, lineEntryFrom, idOf}
-use Rattle.windows.proofs.Answers.{endOf, idCell}
+use Rattle.windows.specs.Ids.{lineEntries, endOf, idCell, lineEntryOf, idOf}
 use Rattle.setup.specs.declared.setup.Setup.{Setup}
 use Rattle.line.specs.Cells.{Cell, ofTable, windowEntry, Lent, view}
 use Rattle.line.specs.Line.{definedAt, entryAt}
+use Rattle.line.proofs.Entries.{run-in-table}
 use Rattle.rests.specs.TableList.{LineEntry}
 use Rattle.rests.proofs.Parts.{Among, Becomes, both, Either, at-first, at-second, either, Read, by-first, by-second, read-either, either-read, read-within, within-read}
 use Rattle.rests.proofs.LookUps.{LookedUpCell, an-end, its-cell, look-up-read, read-end, read-cell, refusal-named, refused-look-up-read, read-any-end}
-use Rattle.rests.proofs.Frames.{identifying, table-run, id-on, id-off}
+use Rattle.rests.proofs.Frames.{identifying, id-on, id-off}
 
 module _ (setup : Setup) (lent : Lent) (start : ℕ) where
   -- the rule of pixel x's window entry
@@ -39,7 +39,7 @@ module _ (setup : Setup) (lent : Lent) (start : ℕ) where
   module _ (on : setup .controls .ids ≡ true) (x : ℕ) where
     -- what comes of the pixel's ID
     pub id-run : run (view lent) (identifying setup lent start x) ≡ run (tableView (lent .table)) (idOf (setup .lengths .table) start x)
-    id-run = rw (id-on setup lent on start x) (table-run setup lent (idOf (setup .lengths .table) start x))
+    id-run = rw (id-on setup lent on start x) (run-in-table lent (idOf (setup .lengths .table) start x))
 
     -- what is read for it is read of the table
     id-inner : {cell : Cell} → Among cell (reads (view lent) (identifying setup lent start x))
@@ -59,7 +59,7 @@ module _ (setup : Setup) (lent : Lent) (start : ℕ) where
     pub entry-of : {id : ℕ} → run (view lent) (identifying setup lent start x) ≡ ok id → (entry : ℕ) × LineEntry setup lent start x entry
     unfolding idOf
     entry-of e =
-        let two = both (tableView (lent .table)) (lineEntryFrom (setup .lengths .table) start 0 x) _ (sym id-run ∙ e) in (two .first, two .found)
+        let two = both (tableView (lent .table)) (lineEntryOf (setup .lengths .table) start x) _ (sym id-run ∙ e) in (two .first, two .found)
 
     -- what is read for an ID that is found
     id-cells : {id : ℕ} → run (view lent) (identifying setup lent start x) ≡ ok id → {cell : Cell}
