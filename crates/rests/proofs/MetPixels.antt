@@ -35,7 +35,7 @@ met-whole setup lent met (ofTable (xend byte)) listed =
     }
 met-whole setup lent met (ofTable (windowId byte)) listed = listed
 met-whole setup lent met (windowEntry id) listed = listed
-met-whole setup lent met (ofColour cell) listed = listed
+met-whole setup lent met (ofColour cell) listed = absurd listed
 
 module _ (setup : Setup) (lent : Lent) {start : ℕ} (started : run (view lent) (starting setup lent) ≡ ok start) where
   -- the entry that a pixel has is reached
