@@ -8,7 +8,6 @@ use Rattle.rules.specs.Faults.{Numbered}
 use Rattle.rules.specs.Checked.{verdict}
 use Rattle.rules.proofs.Then.{run-ok}
 use Rattle.rules.proofs.Value.{run-within-value}
-use Rattle.refusals.specs.declared.Refusal.the-variants.{NoFrameEntry, NoLineEntry, UndefinedEntry}
 use Rattle.colour.specs.declared.entry.Entry.{Entry}
 use Rattle.windows.specs.Table.{yend, lineTable, xend, windowId}
 use Rattle.windows.specs.Ids.{entryByte}
@@ -19,15 +18,15 @@ use Rattle.setup.specs.declared.setup.Setup.{Setup}
 use Rattle.line.specs.Screen.{screenOf}
 use Rattle.line.specs.Cells.{Cell, ofTable, windowEntry, ofColour, Lent, view}
 use Rattle.line.specs.Line.{entriesOf, inColours, coloursOf, lineRule, lineOf}
-use Rattle.rests.specs.Listed.{PixelListed, DrawnListed, NoFrameListed, NoLineListed, WholeListed, RefusedListed, ListedFor, Listed}
+use Rattle.rests.specs.Listed.{PixelListed, DrawnListed, NoFrameListed, NoLineListed, WholeListed, RefusedListed, of-7, of-8, of-9, ListedFor, Listed}
 use Rattle.rests.proofs.Before.{refused-unread, reads-passes}
 use Rattle.rests.proofs.Parts.{Among, both, Either, at-first, at-second, either, by-first, by-second, either-read, within-read, AllAnswer, each-read, each-answers}
 use Rattle.rests.proofs.Passes.{StopsAt, each-stops, each-of-read}
 use Rattle.rests.proofs.ListedColours.{colour-listed}
-use Rattle.rests.proofs.Frames.{starting, no-frame, NoFrame, frame-refusal, no-frame-listed}
+use Rattle.rests.proofs.Frames.{starting, no-frame, NoFrame, frame-number, no-frame-listed}
 use Rattle.rests.proofs.Pixels.{entering, NoId, RefusedPixel, without-id, undefined, pixel-refused, read-no-id}
 use Rattle.rests.proofs.MetPixels.{MetBy, for-start, by-pixel, met-listed, same-start}
-use Rattle.rests.proofs.Early.{NothingListed, early, nothing-listed, under-name}
+use Rattle.rests.proofs.Early.{early, nothing-listed}
 use Rattle.rests.proofs.OnlyListed.{passing, answered-drawn, answered-refused}
 
 module _ (setup : Setup) (lent : Lent) where
@@ -141,10 +140,13 @@ module _ (setup : Setup) (lent : Lent) where
     -- 8 or 9
     stopped-listed : RefusedPixel setup lent start (at .position) refusal → (cell : Cell) → RefusedListed setup lent refusal cell
         → Among cell (reads (view lent) (entriesOf setup))
-    stopped-listed (without-id lacks is) cell listed = no-line-all lacks cell (under-name setup lent (NoLineEntry (at .position)) is listed)
-    stopped-listed (undefined id found is) cell listed =
-        before-stop (suc (at .position)) (omega arith)
-        (met-listed setup lent started (suc (at .position)) cell (under-name setup lent (UndefinedEntry (at .position)) is listed))
+    stopped-listed (without-id lacks is place) cell (of-7 other listed) = absurd (omega arith)
+    stopped-listed (without-id lacks is place) cell (of-8 same listed) = no-line-all lacks cell (rw place at listed)
+    stopped-listed (without-id lacks is place) cell (of-9 other listed) = absurd (omega arith)
+    stopped-listed (undefined id found is place) cell (of-7 other listed) = absurd (omega arith)
+    stopped-listed (undefined id found is place) cell (of-8 other listed) = absurd (omega arith)
+    stopped-listed (undefined id found is place) cell (of-9 same listed) =
+        before-stop (suc (at .position)) (omega arith) (met-listed setup lent started (suc (at .position)) cell (rw place at listed))
 
   -- what is listed for a refused line, its first pass reads
   refused-listed : {refusal : Numbered} → run (view lent) (entriesOf setup) ≡ refused refusal → (cell : Cell) → RefusedListed setup lent refusal cell
@@ -152,10 +154,13 @@ module _ (setup : Setup) (lent : Lent) where
   unfolding entriesOf
   refused-listed {refusal} e cell listed = by (either (view lent) (starting setup lent) (passing setup lent) e)
     where
+      by-frame : NoFrame setup lent refusal → RefusedListed setup lent refusal cell → Among cell (reads (view lent) (entriesOf setup))
+      by-frame lacks (of-7 is listed) = no-frame-all lacks cell listed
+      by-frame lacks (of-8 other listed) = absurd (omega (arith, frame-number setup lent lacks))
+      by-frame lacks (of-9 other listed) = absurd (omega (arith, frame-number setup lent lacks))
+
       by : Either (view lent) (starting setup lent) (passing setup lent) refusal → Among cell (reads (view lent) (entriesOf setup))
-      by (at-first none) =
-          let lacks = no-frame setup lent none in
-          no-frame-all lacks cell (under-name setup lent (NoFrameEntry (setup .y)) (frame-refusal setup lent lacks) listed)
+      by (at-first none) = by-frame (no-frame setup lent none) listed
       by (at-second start started stops) =
           let at = each-stops (view lent) (entering setup lent start) (setup .controls .width) 0 stops in
           stopped-listed started at (pixel-refused setup lent start (at .position) (at .stops)) cell listed
@@ -178,6 +183,5 @@ module _ (setup : Setup) (lent : Lent) where
 
       by-verdict : (outcome : Outcome Numbered (Unit {0})) → verdict (lineFaults setup) ≡ outcome → List·Memᴰ cell (reads (view lent) (lineRule setup))
       by-verdict (refused refusal) e =
-          let there : RefusedListed setup lent refusal cell = by-outcome (refused-unread setup lent e) in
-          absurd (nothing-listed setup lent (there .named) cell (subst NothingListed (there .is) (early setup e)) (there .listed))
+          absurd (nothing-listed setup lent cell (early setup e) (by-outcome (refused-unread setup lent e)))
       by-verdict (ok tt) fine = subst (Among cell) (sym (reads-passes setup lent fine)) (by-entries fine (run (view lent) (entriesOf setup)) refl)

@@ -1,6 +1,6 @@
 -- What a line is refused for before anything is read is none of 7, 8 and 9, and of it nothing is listed. Assumes nothing.
 use Prim.Native.Nat.{ℕ}
-use mathlib.Core.Path.{_≡_, refl, sym, ap, subst, _∙_}
+use mathlib.Core.Path.{_≡_, subst}
 use mathlib.Core.Bool.{Bool, true, false, cond}
 use mathlib.Core.List.{List, [], _∷_}
 use native.Mathlib.Omega.{arith}
@@ -8,14 +8,10 @@ use Rattle.rules.specs.Rule.{refused}
 use Rattle.rules.specs.Faults.{Numbered, Fault}
 use Rattle.rules.specs.Checked.{verdict}
 use Rattle.rules.proofs.Cases.{impossible}
-use Rattle.refusals.specs.Refusal.{numbered}
-use Rattle.refusals.specs.declared.Refusal.{Refusal}
-use Rattle.refusals.specs.declared.Refusal.the-variants.{NoRegister, ReadOnly, StrayBits, QueueFull, StoreLength, TableLength, NormalLength, OverlayLength, OutputLength, BelowActive, NoFrameEntry, NoLineEntry, UndefinedEntry, AboveTotal, BadState, WrongRecord, FileEnds, TooMuch}
-use Rattle.refusals.proofs.Known.{refusalOf, known}
 use Rattle.setup.specs.Faults.{lengthFaults, lineFaults}
 use Rattle.setup.specs.declared.setup.Setup.{Setup}
 use Rattle.line.specs.Cells.{Cell, Lent}
-use Rattle.rests.specs.Listed.{UpToFault, RefusedListed}
+use Rattle.rests.specs.Listed.{RefusedListed, of-7, of-8, of-9}
 
 -- a refusal that lists nothing
 pub record NothingListed (refusal : Numbered) : Type 0 where
@@ -59,35 +55,7 @@ early setup e =
     e
 
 -- of such a refusal nothing is listed
-pub nothing-listed : (setup : Setup) (lent : Lent) (named : Refusal) (cell : Cell) → NothingListed (numbered named) → UpToFault setup lent named cell → ⊥
-nothing-listed setup lent (NoRegister address) cell none listed = listed
-nothing-listed setup lent (ReadOnly address) cell none listed = listed
-nothing-listed setup lent (StrayBits address) cell none listed = listed
-nothing-listed setup lent (QueueFull address) cell none listed = listed
-nothing-listed setup lent StoreLength cell none listed = listed
-nothing-listed setup lent TableLength cell none listed = listed
-nothing-listed setup lent NormalLength cell none listed = listed
-nothing-listed setup lent OverlayLength cell none listed = listed
-nothing-listed setup lent OutputLength cell none listed = listed
-nothing-listed setup lent (BelowActive y) cell none listed = listed
-nothing-listed setup lent (NoFrameEntry y) cell none listed = none .not-7 refl
-nothing-listed setup lent (NoLineEntry x) cell none listed = none .not-8 refl
-nothing-listed setup lent (UndefinedEntry x) cell none listed = none .not-9 refl
-nothing-listed setup lent AboveTotal cell none listed = listed
-nothing-listed setup lent BadState cell none listed = listed
-nothing-listed setup lent (WrongRecord number) cell none listed = listed
-nothing-listed setup lent (FileEnds number) cell none listed = listed
-nothing-listed setup lent (TooMuch number) cell none listed = listed
-
--- ---- a refusal has one name
-
--- two that say the same are one
-pub one-name : (named other : Refusal) → numbered named ≡ numbered other → other ≡ named
-one-name named other e = sym (known other) ∙ ap refusalOf (sym e) ∙ known named
-
-module _ (setup : Setup) (lent : Lent) where
-  -- what is listed for a refusal is listed under its one name
-  pub under-name : {refusal : Numbered} (name : Refusal) {cell : Cell} → refusal ≡ numbered name → RefusedListed setup lent refusal cell → UpToFault setup lent name cell
-  under-name {refusal} name {cell} is listed =
-      let same = one-name name (listed .named) (sym is ∙ listed .is) in
-      subst (λ (n : Refusal). UpToFault setup lent n cell) same (listed .listed)
+pub nothing-listed : (setup : Setup) (lent : Lent) {refusal : Numbered} (cell : Cell) → NothingListed refusal → RefusedListed setup lent refusal cell → ⊥
+nothing-listed setup lent cell none (of-7 is listed) = none .not-7 is
+nothing-listed setup lent cell none (of-8 is listed) = none .not-8 is
+nothing-listed setup lent cell none (of-9 is listed) = none .not-9 is

@@ -3,10 +3,9 @@ use Prim.Native.Nat.{ℕ, _<_}
 use mathlib.Core.Path.{_≡_, refl, sym, ap, subst, _∙_}
 use mathlib.Core.Bool.{Bool, true, false}
 use mathlib.Core.List.{List·Memᴰ·not-nil}
-use Rattle.rules.specs.Rule.{Rule, done, Outcome, ok, refused, run, reads, renamed}
+use Rattle.rules.specs.Rule.{Rule, done, ok, refused, run, reads}
 use Rattle.rules.specs.Faults.{Numbered}
 use Rattle.rules.proofs.Cases.{impossible}
-use Rattle.rules.proofs.Then.{run-within}
 use Rattle.refusals.specs.Refusal.{numbered}
 use Rattle.refusals.specs.declared.Refusal.the-variants.{NoFrameEntry}
 use Rattle.windows.specs.Table.{TableCell, yend, lineTable, tableView}
@@ -15,15 +14,11 @@ use Rattle.windows.specs.Ids.{idOf}
 use Rattle.setup.specs.declared.setup.Setup.{Setup}
 use Rattle.line.specs.Cells.{Cell, ofTable, Lent, view}
 use Rattle.line.specs.Line.{inTable, startOf, idAt}
+use Rattle.line.proofs.Entries.{run-in-table}
 use Rattle.rests.specs.TableList.{FrameEntry, FrameListed, StartsAt, MetListed}
 use Rattle.rests.specs.Listed.{NoFrameListed}
 use Rattle.rests.proofs.Parts.{Among, Becomes, read-within, within-read}
 use Rattle.rests.proofs.LookUps.{LookedUpCell, an-end, its-cell, look-up-read, read-end, read-cell, refusal-named, refused-look-up-read, read-any-end}
-
--- refusals under their own names
-renamed-same : {A : Type 0} (outcome : Outcome Numbered A) → renamed (λ (refusal : Numbered). refusal) outcome ≡ outcome
-renamed-same (ok answer) = refl
-renamed-same (refused refusal) = refl
 
 module _ (setup : Setup) (lent : Lent) where
   -- the rule that finds the line table
@@ -33,10 +28,6 @@ module _ (setup : Setup) (lent : Lent) where
   -- the rule of pixel x's ID
   abbrev pub identifying : ℕ → ℕ → Rule Numbered Cell ℕ
   identifying start x = idAt (setup .controls) (setup .lengths .table) start x
-
-  -- what comes of a rule over the table
-  pub table-run : {A : Type 0} (rule : Rule Numbered TableCell A) → run (view lent) (inTable rule) ≡ run (tableView (lent .table)) rule
-  table-run rule = run-within (λ (refusal : Numbered). refusal) ofTable (view lent) rule ∙ renamed-same _
 
   -- ---- window IDs on or off
 
@@ -62,11 +53,11 @@ module _ (setup : Setup) (lent : Lent) where
 
   -- a line table that is found starts there
   pub starts-at : setup .controls .ids ≡ true → {start : ℕ} → run (view lent) starting ≡ ok start → StartsAt setup lent start
-  starts-at on e = record { on = on; found = sym (table-run (lineTableOf (setup .lengths .table) (setup .y))) ∙ (rw (start-on on) at e) }
+  starts-at on e = record { on = on; found = sym (run-in-table lent (lineTableOf (setup .lengths .table) (setup .y))) ∙ (rw (start-on on) at e) }
 
   -- and where one starts, it is found
   pub starts-found : {start : ℕ} → StartsAt setup lent start → run (view lent) starting ≡ ok start
-  starts-found at = rw (start-on (at .on)) (table-run (lineTableOf (setup .lengths .table) (setup .y)) ∙ at .found)
+  starts-found at = rw (start-on (at .on)) (run-in-table lent (lineTableOf (setup .lengths .table) (setup .y)) ∙ at .found)
 
   -- ---- where the line table starts
 
@@ -140,14 +131,16 @@ module _ (setup : Setup) (lent : Lent) where
   no-frame {refusal} e = by (setup .controls .ids) refl
     where
       by : (test : Bool) → setup .controls .ids ≡ test → NoFrame refusal
-      by true on = record { on = on; none = sym (table-run (lineTableOf (setup .lengths .table) (setup .y))) ∙ (rw (start-on on) at e) }
+      by true on = record { on = on; none = sym (run-in-table lent (lineTableOf (setup .lengths .table) (setup .y))) ∙ (rw (start-on on) at e) }
       by false off = impossible (cc (start-off off))
 
   module _ {refusal : Numbered} (lacks : NoFrame refusal) where
     -- the refusal is 7
-    pub frame-refusal : refusal ≡ numbered (NoFrameEntry (setup .y))
+    pub frame-number : refusal .number ≡ 7
     unfolding lineTableOf
-    frame-refusal = refusal-named (tableView (lent .table)) (numbered (NoFrameEntry (setup .y))) yend lineTable (frameEntries (setup .lengths .table)) (setup .y) (lacks .none)
+    frame-number =
+        ap (λ (told : Numbered). told .number)
+        (refusal-named (tableView (lent .table)) (numbered (NoFrameEntry (setup .y))) yend lineTable (frameEntries (setup .lengths .table)) (setup .y) (lacks .none))
 
     -- all ends are read, and nothing else
     pub no-frame-read : {cell : Cell} → Among cell (reads (view lent) starting) → NoFrameListed setup lent cell

@@ -3,12 +3,11 @@ use Prim.Native.Nat.{ℕ, suc, _≤_, _<_}
 use mathlib.Core.Path.{_≡_, refl, sym, subst}
 use mathlib.Core.List.{List·Memᴰ·head, List·Memᴰ·eq-of-singleton}
 use native.Mathlib.Omega.{arith}
-use native.Mathlib.Nat.{sub-zero}
 use Rattle.rules.specs.Rule.{Rule, ok, refused, run, reads, get, _>>=_}
 use Rattle.rules.specs.Lists.{values}
 use Rattle.rules.proofs.Cases.{impossible}
 use Rattle.windows.specs.Search.{entryAt}
-use Rattle.windows.proofs.Search.{found-reads, missing-named, missing-reads}
+use Rattle.windows.proofs.Whole.{whole-reads, none-named, none-reads}
 use Rattle.rests.proofs.Parts.{Among, both, Either, at-first, at-second, either, Read, by-first, by-second, read-either, either-read, value-among, among-values}
 
 module _ {R Q : Type 0} (memory : Q → ℕ) (missing : R) (end cell-of : ℕ → Q) (count position : ℕ) where
@@ -36,7 +35,7 @@ module _ {R Q : Type 0} (memory : Q → ℕ) (missing : R) (end cell-of : ℕ �
   module _ {entry : ℕ} (found : run memory searched ≡ ok entry) where
     -- a search that finds reads the ends up to the entry found
     read-list : reads memory searched ≡ values end (suc entry) 0
-    read-list = rw sub-zero at (found-reads memory missing end count 0 position found)
+    read-list = whole-reads memory missing end count position found
 
     -- so each cell that it reads is one of them
     found-read : {cell : Q} → Among cell (reads memory searched) → LookedUpCell cell
@@ -51,7 +50,7 @@ module _ {R Q : Type 0} (memory : Q → ℕ) (missing : R) (end cell-of : ℕ �
   module _ {refusal : R} (none : run memory searched ≡ refused refusal) where
     -- a search that finds nothing reads every end
     read-all : reads memory searched ≡ values end count 0
-    read-all = rw sub-zero at (missing-reads memory missing end count 0 position none)
+    read-all = none-reads memory missing end count position none
 
     -- so each cell that it reads is one of all
     missing-read : {cell : Q} → Among cell (reads memory searched) → AnyEnd cell
@@ -91,7 +90,7 @@ module _ {R Q : Type 0} (memory : Q → ℕ) (missing : R) (end cell-of : ℕ �
 
   -- and only as it is told to
   pub refusal-named : {refusal : R} → run memory looked-up ≡ refused refusal → refusal ≡ missing
-  refusal-named e = missing-named memory missing end count 0 position (not-found e)
+  refusal-named e = none-named memory missing end count position (not-found e)
 
   -- what a look-up that refuses reads
   pub refused-look-up-read : {refusal : R} → run memory looked-up ≡ refused refusal → {cell : Q} → Among cell (reads memory looked-up) → AnyEnd cell

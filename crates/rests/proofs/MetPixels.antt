@@ -8,9 +8,8 @@ use Rattle.rules.proofs.Then.{run-ok}
 use Rattle.refusals.specs.Refusal.{numbered}
 use Rattle.refusals.specs.declared.Refusal.the-variants.{NoLineEntry}
 use Rattle.windows.specs.Table.{yend, lineTable, xend, windowId, tableView}
-use Rattle.windows.specs.Ids.{lineEntries, entryByte}
-use Rattle.windows.proofs.Search.{Reached, found-tells, reached-monotone}
-use Rattle.windows.proofs.Answers.{endOf}
+use Rattle.windows.specs.Ids.{lineEntries, entryByte, endOf}
+use Rattle.windows.proofs.Whole.{ReachedAt, whole-tells, later-entry}
 use Rattle.setup.specs.declared.setup.Setup.{Setup}
 use Rattle.line.specs.Cells.{Cell, ofTable, windowEntry, ofColour, Lent, view}
 use Rattle.rests.specs.TableList.{StartsAt, LineEntry, HasId, LineListed, IdListed, WindowListed, MetListed}
@@ -25,8 +24,8 @@ met-whole setup lent met (ofTable (yend number)) listed = listed
 met-whole setup lent met (ofTable (lineTable number)) listed = listed
 met-whole setup lent met (ofTable (xend byte)) listed =
     let there =
-    found-tells (tableView (lent .table)) (numbered (NoLineEntry (listed .last))) (endOf (listed .start))
-    (lineEntries (setup .lengths .table) (listed .start)) 0 (listed .last) (listed .found) in
+    whole-tells (tableView (lent .table)) (numbered (NoLineEntry (listed .last))) (endOf (listed .start))
+    (lineEntries (setup .lengths .table) (listed .start)) (listed .last) (listed .found) in
     record {
       start = listed .start;
       starts = listed .starts;
@@ -36,13 +35,13 @@ met-whole setup lent met (ofTable (xend byte)) listed =
     }
 met-whole setup lent met (ofTable (windowId byte)) listed = listed
 met-whole setup lent met (windowEntry id) listed = listed
-met-whole setup lent met (ofColour cell) listed = listed
+met-whole setup lent met (ofColour cell) listed = absurd listed
 
 module _ (setup : Setup) (lent : Lent) {start : ℕ} (started : run (view lent) (starting setup lent) ≡ ok start) where
   -- the entry that a pixel has is reached
   reached : {x entry : ℕ} → LineEntry setup lent start x entry
-      → Reached (tableView (lent .table)) (endOf start) (lineEntries (setup .lengths .table) start) 0 x entry
-  reached {x} found = found-tells (tableView (lent .table)) (numbered (NoLineEntry x)) (endOf start) (lineEntries (setup .lengths .table) start) 0 x found
+      → ReachedAt (tableView (lent .table)) (endOf start) (lineEntries (setup .lengths .table) start) x entry
+  reached {x} found = whole-tells (tableView (lent .table)) (numbered (NoLineEntry x)) (endOf start) (lineEntries (setup .lengths .table) start) x found
 
   -- every pixel before `met` has an ID
   abbrev pub AllIds : ℕ → Type 0
@@ -66,7 +65,7 @@ module _ (setup : Setup) (lent : Lent) {start : ℕ} (started : run (view lent) 
         entry = there .0;
         found = there .1;
         number = number;
-        up-to = omega (arith, reached-monotone (reached found) (reached (there .1)) (omega arith));
+        up-to = omega (arith, later-entry (reached found) (reached (there .1)) (omega arith));
         stands = refl;
       })
   pixel-met {met} {x} {cell} ids is-met (pixel-id on entry found is) =

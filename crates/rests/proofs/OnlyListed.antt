@@ -12,7 +12,6 @@ use Rattle.rules.specs.Faults.{Numbered}
 use Rattle.rules.specs.Checked.{verdict}
 use Rattle.rules.proofs.Cases.{impossible, le-or-lt}
 use Rattle.rules.proofs.Then.{run-ok, run-refused}
-use Rattle.refusals.specs.declared.Refusal.the-variants.{NoFrameEntry, NoLineEntry, UndefinedEntry}
 use Rattle.colour.specs.declared.entry.Entry.{Entry}
 use Rattle.pixels.specs.Cells.{PixelCell}
 use Rattle.pixels.specs.Colour.{colourOf}
@@ -22,12 +21,12 @@ use Rattle.line.specs.Screen.{screenOf}
 use Rattle.line.specs.Cells.{Cell, ofTable, windowEntry, ofColour, Lent, view}
 use Rattle.line.specs.Line.{entriesOf, inColours, coloursOf, lineRule, lineOf}
 use Rattle.rests.specs.TableList.{MetListed}
-use Rattle.rests.specs.Listed.{DrawnListed, NoLineListed, RefusedListed, ListedFor, Listed}
+use Rattle.rests.specs.Listed.{DrawnListed, NoLineListed, RefusedListed, of-7, of-8, of-9, ListedFor, Listed}
 use Rattle.rests.proofs.Before.{never-colours, unread, passes, reads-passes}
 use Rattle.rests.proofs.Parts.{Among, both, Either, at-first, at-second, either, Read, by-first, by-second, read-either, read-within, ReadAt, read-each, each-answers}
 use Rattle.rests.proofs.Passes.{StopsAt, each-stops, read-each-of}
 use Rattle.rests.proofs.Colours.{colour-read}
-use Rattle.rests.proofs.Frames.{starting, identifying, start-read, NoFrame, no-frame, frame-refusal, no-frame-read}
+use Rattle.rests.proofs.Frames.{starting, identifying, start-read, NoFrame, no-frame, frame-number, no-frame-read}
 use Rattle.rests.proofs.Pixels.{entering, pixel-read, entry-id, NoId, RefusedPixel, without-id, undefined, pixel-refused, no-id-read}
 use Rattle.rests.proofs.MetPixels.{met-whole, AllIds, pixel-met, whole}
 
@@ -80,8 +79,7 @@ module _ (setup : Setup) (lent : Lent) where
   -- there is no line table
   no-table-read : {refusal : Numbered} → NoFrame setup lent refusal → run (view lent) (starting setup lent) ≡ refused refusal
       → {cell : Cell} → Read (view lent) (starting setup lent) passing cell → RefusedListed setup lent refusal cell
-  no-table-read lacks none (by-first there) =
-      record { named = NoFrameEntry (setup .y); is = frame-refusal setup lent lacks; listed = no-frame-read setup lent lacks there }
+  no-table-read lacks none (by-first there) = of-7 (frame-number setup lent lacks) (no-frame-read setup lent lacks there)
   no-table-read lacks none (by-second start started there) = impossible (cc)
 
   module _ {start : ℕ} (started : run (view lent) (starting setup lent) ≡ ok start) {refusal : Numbered}
@@ -129,25 +127,19 @@ module _ (setup : Setup) (lent : Lent) where
     -- what is read up to the pixel that is refused is listed
     stopped-read : RefusedPixel setup lent start (at .position) refusal → {cell : Cell} → Read (view lent) (starting setup lent) passing cell
         → RefusedListed setup lent refusal cell
-    stopped-read (without-id lacks is) {cell} here =
-        record {
-          named = NoLineEntry (at .position);
-          is = is;
-          listed =
-              ⊎-elim (λ there. met-whole setup lent (at .position) cell (start-read setup lent (at .position) started there)) (without-id-read lacks) (read-parts here);
-        }
-    stopped-read (undefined id found is) {cell} here =
+    stopped-read (without-id lacks is place) {cell} here =
+        of-8 is
+        (subst (λ (x : ℕ). NoLineListed setup lent x cell) (sym place)
+        (⊎-elim (λ there. met-whole setup lent (at .position) cell (start-read setup lent (at .position) started there)) (without-id-read lacks) (read-parts here)))
+    stopped-read (undefined id found is place) {cell} here =
         let ids = ids-up-to found in
-        record {
-          named = UndefinedEntry (at .position);
-          is = is;
-          listed =
-              ⊎-elim (start-read setup lent (suc (at .position)) started)
-              (λ there.
-              let below : there .position < suc (at .position) = omega (arith, not-behind there) in
-              pixel-met setup lent started ids below (pixel-read setup lent start (there .position) (ids (there .position) below .1) (there .here)))
-              (read-parts here);
-        }
+        of-9 is
+        (subst (λ (x : ℕ). MetListed setup lent (suc x) cell) (sym place)
+        (⊎-elim (start-read setup lent (suc (at .position)) started)
+        (λ there.
+        let below : there .position < suc (at .position) = omega (arith, not-behind there) in
+        pixel-met setup lent started ids below (pixel-read setup lent start (there .position) (ids (there .position) below .1) (there .here)))
+        (read-parts here)))
 
   -- what it reads is listed for the refusal
   refused-read : {refusal : Numbered} → run (view lent) (entriesOf setup) ≡ refused refusal → {cell : Cell}

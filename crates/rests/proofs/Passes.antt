@@ -1,11 +1,11 @@
--- Where a pass stops, how many it answers, and what a second pass over its answers reads. Assumes nothing.
+-- Where a pass stops, how many it answers, and what a second pass over its answers answers and reads. Assumes nothing.
 use Prim.Native.Nat.{ℕ, zero, suc, _+_, _≤_, _<_}
 use mathlib.Core.Path.{_≡_, refl, sym, ap, subst}
 use mathlib.Core.List.{List, [], _∷_, List·Memᴰ·not-nil}
 use mathlib.Core.Logic.{⊎-elim}
 use native.Mathlib.Omega.{arith}
-use native.Mathlib.Nat.{eq-or-lt-of-le}
-use lib.ListN.{length}
+use native.Mathlib.Nat.{add-zero, eq-or-lt-of-le}
+use lib.ListN.{length, getD}
 use Rattle.rules.specs.Rule.{Rule, done, ok, refused, run, reads, _>>=_}
 use Rattle.rules.specs.Each.{each, eachOf}
 use Rattle.rules.proofs.Cases.{impossible}
@@ -69,6 +69,41 @@ module _ {R Q A B : Type 0} (memory : Q → ℕ) (rule : B → ℕ → Rule R Q 
       let rest = both memory (eachOf rule others (suc from)) _ (first .next) in
       let is : answers ≡ first .first ∷ rest .first = cc (rest .next) in
       rw is (ap suc (each-of-length others (suc from) (rest .found)))
+
+  -- what two passes answer at a position: what the first found there, and what the second makes of it
+  pub record AnswerOf (first : ℕ → Rule R Q B) (position : ℕ) (answer : A) : Type 0 where
+    pub value : B
+    pub found : run memory (first position) ≡ ok value
+    pub made : run memory (rule value position) ≡ ok answer
+
+  -- each answer of the second pass is such
+  pub answer-each-of : (first : ℕ → Rule R Q B) (none : A) (count from : ℕ) {found : List B} {answers : List A} → run memory (each first count from) ≡ ok found
+      → run memory (eachOf rule found from) ≡ ok answers → (i : ℕ) → i < count → AnswerOf first (from + i) (getD answers i none)
+  answer-each-of first none zero from e made i below = absurd (omega arith)
+  answer-each-of first none (suc count) from {found} {answers} e made i below =
+      let one = both memory (first from) _ e in
+      let rest = both memory (each first count (suc from)) _ (one .next) in
+      let is : found ≡ one .first ∷ rest .first = cc (rest .next) in
+      by (one .first) (rest .first) (one .found) (subst (λ (l : List B). run memory (eachOf rule l from) ≡ ok answers) is made)
+      (λ others behind j h. answer-each-of first none count (suc from) (rest .found) behind j h) i below
+    where
+      at : {b : B} {answer : A} (others : List A) → run memory (first from) ≡ ok b → run memory (rule b from) ≡ ok answer
+          → ((j : ℕ) → j < count → AnswerOf first (suc from + j) (getD others j none))
+          → (i : ℕ) → i < suc count → AnswerOf first (from + i) (getD (answer ∷ others) i none)
+      at {b} {answer} others found here later zero h =
+          subst (λ (n : ℕ). AnswerOf first n answer) (sym (add-zero from)) (record { value = b; found = found; made = here })
+      at {b} {answer} others found here later (suc j) h =
+          let same : suc from + j ≡ from + suc j = omega arith in
+          subst (λ (n : ℕ). AnswerOf first n (getD others j none)) same (later j (omega arith))
+
+      by : (b : B) (values : List B) {answers : List A} → run memory (first from) ≡ ok b → run memory (eachOf rule (b ∷ values) from) ≡ ok answers
+          → ((others : List A) → run memory (eachOf rule values (suc from)) ≡ ok others → (j : ℕ) → j < count → AnswerOf first (suc from + j) (getD others j none))
+          → (i : ℕ) → i < suc count → AnswerOf first (from + i) (getD answers i none)
+      by b values {answers} found made later i h =
+          let here = both memory (rule b from) _ made in
+          let behind = both memory (eachOf rule values (suc from)) _ (here .next) in
+          let are : answers ≡ here .first ∷ behind .first = cc (behind .next) in
+          rw are (at (behind .first) found (here .found) (later (behind .first) (behind .found)) i h)
 
   -- a cell that the second pass reads at a position, by what the first found there
   pub record ReadOf (first : ℕ → Rule R Q B) (count from : ℕ) (cell : Q) : Type 0 where

@@ -5,7 +5,7 @@ use mathlib.Core.Bool.{Bool, true, false}
 use mathlib.Core.List.{List·Memᴰ·head, List·Memᴰ·cases-cons, List·Memᴰ·not-nil, Memᴰ·cast}
 use mathlib.Core.Logic.{⊎-elim}
 use Rattle.rules.specs.Rule.{Rule, ok, refused, run, reads, get, _>>=_}
-use Rattle.rules.specs.Faults.{Numbered}
+use Rattle.rules.specs.Faults.{Numbered, placeIn}
 use Rattle.rules.proofs.Cases.{impossible}
 use Rattle.refusals.specs.Refusal.{numbered}
 use Rattle.refusals.specs.declared.Refusal.the-variants.{NoLineEntry, UndefinedEntry}
@@ -14,15 +14,15 @@ use Rattle.colour.specs.declared.entry.Decoded.{Decoded}
 use Rattle.colour.specs.declared.entry.Decoded.the-variants.{Defined, Undefined}
 use Rattle.colour.specs.declared.entry.Entry.{Entry}
 use Rattle.windows.specs.Table.{TableCell, tableView}
-use Rattle.windows.specs.Ids.{lineEntries, lineEntryFrom, idOf}
-use Rattle.windows.proofs.Answers.{endOf, idCell}
+use Rattle.windows.specs.Ids.{lineEntries, endOf, idCell, lineEntryOf, idOf}
 use Rattle.setup.specs.declared.setup.Setup.{Setup}
 use Rattle.line.specs.Cells.{Cell, ofTable, windowEntry, Lent, view}
 use Rattle.line.specs.Line.{definedAt, entryAt}
+use Rattle.line.proofs.Entries.{run-in-table}
 use Rattle.rests.specs.TableList.{LineEntry}
 use Rattle.rests.proofs.Parts.{Among, Becomes, both, Either, at-first, at-second, either, Read, by-first, by-second, read-either, either-read, read-within, within-read}
 use Rattle.rests.proofs.LookUps.{LookedUpCell, an-end, its-cell, look-up-read, read-end, read-cell, refusal-named, refused-look-up-read, read-any-end}
-use Rattle.rests.proofs.Frames.{identifying, table-run, id-on, id-off}
+use Rattle.rests.proofs.Frames.{identifying, id-on, id-off}
 
 module _ (setup : Setup) (lent : Lent) (start : ℕ) where
   -- the rule of pixel x's window entry
@@ -39,7 +39,7 @@ module _ (setup : Setup) (lent : Lent) (start : ℕ) where
   module _ (on : setup .controls .ids ≡ true) (x : ℕ) where
     -- what comes of the pixel's ID
     pub id-run : run (view lent) (identifying setup lent start x) ≡ run (tableView (lent .table)) (idOf (setup .lengths .table) start x)
-    id-run = rw (id-on setup lent on start x) (table-run setup lent (idOf (setup .lengths .table) start x))
+    id-run = rw (id-on setup lent on start x) (run-in-table lent (idOf (setup .lengths .table) start x))
 
     -- what is read for it is read of the table
     id-inner : {cell : Cell} → Among cell (reads (view lent) (identifying setup lent start x))
@@ -59,7 +59,7 @@ module _ (setup : Setup) (lent : Lent) (start : ℕ) where
     pub entry-of : {id : ℕ} → run (view lent) (identifying setup lent start x) ≡ ok id → (entry : ℕ) × LineEntry setup lent start x entry
     unfolding idOf
     entry-of e =
-        let two = both (tableView (lent .table)) (lineEntryFrom (setup .lengths .table) start 0 x) _ (sym id-run ∙ e) in (two .first, two .found)
+        let two = both (tableView (lent .table)) (lineEntryOf (setup .lengths .table) start x) _ (sym id-run ∙ e) in (two .first, two .found)
 
     -- what is read for an ID that is found
     id-cells : {id : ℕ} → run (view lent) (identifying setup lent start x) ≡ ok id → {cell : Cell}
@@ -126,10 +126,10 @@ module _ (setup : Setup) (lent : Lent) (start : ℕ) where
         by true on = record { on = on; none = sym (id-run on x) ∙ e }
         by false off = impossible (cc (id-off setup lent off start x))
 
-    -- why a pixel is refused: it has no ID, which is 8, or the entry of its ID is undefined, which is 9
+    -- why a pixel is refused: it has no ID, which is 8 at the pixel, or the entry of its ID is undefined, which is 9 there
     pub data RefusedPixel (refusal : Numbered) : Type 0 where
-      without-id : NoId refusal → refusal ≡ numbered (NoLineEntry x) → RefusedPixel refusal
-      undefined : (id : ℕ) → run (view lent) (identifying setup lent start x) ≡ ok id → refusal ≡ numbered (UndefinedEntry x) → RefusedPixel refusal
+      without-id : NoId refusal → refusal .number ≡ 8 → placeIn refusal ≡ x → RefusedPixel refusal
+      undefined : (id : ℕ) → run (view lent) (identifying setup lent start x) ≡ ok id → refusal .number ≡ 9 → placeIn refusal ≡ x → RefusedPixel refusal
 
     -- the refusal is then 8
     id-refusal : {refusal : Numbered} → NoId refusal → refusal ≡ numbered (NoLineEntry x)
@@ -149,8 +149,11 @@ module _ (setup : Setup) (lent : Lent) (start : ℕ) where
       where
         by : Either (view lent) (identifying setup lent start x)
             (λ id. get (windowEntry id) >>= (λ word. definedAt x (decoded word (setup .controls .depth)))) refusal → RefusedPixel refusal
-        by (at-first none) = without-id (no-id none) (id-refusal (no-id none))
-        by (at-second id found none) = undefined id found (said-refusal (decoded (view lent (windowEntry id)) (setup .controls .depth)) none)
+        by (at-first none) =
+            let is = id-refusal (no-id none) in without-id (no-id none) (ap (λ (told : Numbered). told .number) is) (ap placeIn is)
+        by (at-second id found none) =
+            let is = said-refusal (decoded (view lent (windowEntry id)) (setup .controls .depth)) none in
+            undefined id found (ap (λ (told : Numbered). told .number) is) (ap placeIn is)
 
     module _ {refusal : Numbered} (lacks : NoId refusal) where
       -- a pixel without an ID reads all ends of the line table, and nothing else

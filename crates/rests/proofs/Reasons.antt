@@ -19,18 +19,19 @@ use Rattle.colour.specs.declared.entry.Decoded.{Decoded}
 use Rattle.colour.specs.declared.entry.Decoded.the-variants.{Defined, Undefined}
 use Rattle.windows.specs.Table.{yend, tableView}
 use Rattle.windows.specs.Frame.{frameEntries, lineTableOf}
-use Rattle.windows.specs.Ids.{lineEntries}
-use Rattle.windows.proofs.Search.{misses}
-use Rattle.windows.proofs.Answers.{table-of-none, table-unanswered, endOf, id-of-none, id-unanswered}
+use Rattle.windows.specs.Ids.{lineEntries, endOf}
+use Rattle.windows.proofs.Whole.{whole-misses}
+use Rattle.windows.proofs.Answers.{table-of-none, table-unanswered, id-of-none, id-unanswered}
 use Rattle.setup.specs.Faults.{lineFaults}
 use Rattle.setup.specs.declared.setup.Setup.{Setup}
 use Rattle.line.specs.Cells.{Lent, view}
 use Rattle.line.specs.Line.{definedAt, entryAt, entriesOf, coloursOf, lineOf}
+use Rattle.line.proofs.Entries.{run-in-table}
 use Rattle.rests.specs.Reasons.{NoFrameReaches, NoEntryReaches, UndefinedAt, ComesTo, Reason, at-once, no-frame-entry, no-line-entry, undefined-entry}
 use Rattle.rests.proofs.Before.{never-colours, refused-unread, passes}
 use Rattle.rests.proofs.Parts.{both, Either, at-first, at-second, either, AllAnswer}
 use Rattle.rests.proofs.Passes.{StopsAt, each-stops}
-use Rattle.rests.proofs.Frames.{starting, identifying, table-run, start-on, starts-at, starts-found, NoFrame, no-frame}
+use Rattle.rests.proofs.Frames.{starting, identifying, start-on, starts-at, starts-found, NoFrame, no-frame}
 use Rattle.rests.proofs.Pixels.{entering, id-run, RefusedPixel, without-id, undefined, pixel-refused}
 use Rattle.rests.proofs.OnlyListed.{passing, answered-refused}
 
@@ -52,36 +53,33 @@ module _ {R Q A : Type 0} (memory : Q → ℕ) (rule : ℕ → Rule R Q A) where
 module _ (setup : Setup) (lent : Lent) where
   -- ---- a line that is refused has its reason
 
-  -- a window entry that refuses is undefined
-  says-undefined : (x : ℕ) (entry : Decoded) {refusal : Numbered} → run (view lent) (definedAt x entry) ≡ refused refusal → entry ≡ Undefined
+  -- a window entry that refuses is undefined, and refuses by 9 at the pixel
+  says-undefined : (x : ℕ) (entry : Decoded) {refusal : Numbered} → run (view lent) (definedAt x entry) ≡ refused refusal
+      → (entry ≡ Undefined) × (refusal ≡ numbered (UndefinedEntry x))
   says-undefined x (Defined entry) e = impossible (cc)
-  says-undefined x Undefined e = refl
+  says-undefined x Undefined e = (refl, cc)
 
   module _ (clear : Clear (lineFaults setup)) where
     -- without a line table: 7
     for-frame : {refusal : Numbered} → NoFrame setup lent refusal → Reason setup lent refusal
     for-frame lacks =
         let none = table-unanswered (tableView (lent .table)) (setup .lengths .table) (setup .y) (lacks .none) in
-        no-frame-entry clear (record { on = lacks .on; short = λ number below. none .short .each number (omega arith) below }) (none .named)
+        no-frame-entry clear (record { on = lacks .on; none = none .none }) (none .named)
 
     module _ {start : ℕ} (started : run (view lent) (starting setup lent) ≡ ok start) where
       -- at a pixel: 8 or 9
       for-pixel : (x : ℕ) {refusal : Numbered} → ComesTo setup lent x → run (view lent) (entering setup lent start x) ≡ refused refusal
           → RefusedPixel setup lent start x refusal → Reason setup lent refusal
       unfolding entryAt
-      for-pixel x comes stops (without-id lacks is) =
+      for-pixel x comes stops (without-id lacks is place) =
           let none = id-unanswered (tableView (lent .table)) (setup .lengths .table) start x (lacks .none) in
           no-line-entry clear x comes
-          (record { start = start; starts = starts-at setup lent (lacks .on) started; short = λ number below. none .short .each number (omega arith) below })
-          is
-      for-pixel x comes stops (undefined id found is) =
+          (record { start = start; starts = starts-at setup lent (lacks .on) started; none = none .none })
+          (none .named)
+      for-pixel x comes stops (undefined id found is place) =
+          let says = says-undefined x _ (sym (run-ok (view lent) (identifying setup lent start x) _ found) ∙ stops) in
           undefined-entry clear x comes
-          (record {
-            id = id;
-            has = run-ok (view lent) (starting setup lent) _ started ∙ found;
-            says = says-undefined x _ (sym (run-ok (view lent) (identifying setup lent start x) _ found) ∙ stops);
-          })
-          is
+          (record { id = id; has = run-ok (view lent) (starting setup lent) _ started ∙ found; says = says .0 }) (says .1)
 
       -- the line comes to the pixel at which the pass stops
       for-pass : {refusal : Numbered} → StopsAt (view lent) (entering setup lent start) (setup .controls .width) 0 refusal → Reason setup lent refusal
@@ -127,9 +125,9 @@ module _ (setup : Setup) (lent : Lent) where
   frame-refuses none =
       run-refused (view lent) (starting setup lent) _
       (rw (start-on setup lent (none .on))
-      (table-run setup lent (lineTableOf (setup .lengths .table) (setup .y))
+      (run-in-table lent (lineTableOf (setup .lengths .table) (setup .y))
       ∙ table-of-none (tableView (lent .table)) (setup .lengths .table) (setup .y)
-      (misses (tableView (lent .table)) _ yend (frameEntries (setup .lengths .table)) 0 (setup .y) (record { each = λ i low high. none .short i high }))))
+      (whole-misses (tableView (lent .table)) _ yend (frameEntries (setup .lengths .table)) (setup .y) (none .none))))
 
   -- a line that comes to a pixel is refused as the pixel is
   pixel-decides : {start : ℕ} → run (view lent) (starting setup lent) ≡ ok start → (x : ℕ) {refusal : Numbered} → ComesTo setup lent x
@@ -150,8 +148,7 @@ module _ (setup : Setup) (lent : Lent) where
       (run-refused (view lent) (identifying setup lent (none .start) x) _
       (id-run setup lent (none .start) (none .starts .on) x
       ∙ id-of-none (tableView (lent .table)) (setup .lengths .table) (none .start) x
-      (misses (tableView (lent .table)) _ (endOf (none .start)) (lineEntries (setup .lengths .table) (none .start)) 0 x
-      (record { each = λ i low high. none .short i high }))))
+      (whole-misses (tableView (lent .table)) _ (endOf (none .start)) (lineEntries (setup .lengths .table) (none .start)) x (none .none))))
 
   -- 9
   entry-refuses : (x : ℕ) → ComesTo setup lent x → UndefinedAt setup lent x → run (view lent) (entriesOf setup) ≡ refused (numbered (UndefinedEntry x))

@@ -1,5 +1,6 @@
 pub mod Calls
 pub mod TableList
+pub mod PixelColour
 pub mod ColourList
 pub mod Listed
 pub mod Hidden

@@ -4,10 +4,7 @@ use mathlib.Core.Path.{_≡_}
 use mathlib.Core.Bool.{true}
 use mathlib.Core.List.{List}
 use Rattle.rules.specs.Rule.{Outcome, ok, refused}
-use Rattle.rules.specs.Faults.{Numbered}
-use Rattle.refusals.specs.Refusal.{numbered}
-use Rattle.refusals.specs.declared.Refusal.{Refusal}
-use Rattle.refusals.specs.declared.Refusal.the-variants.{NoRegister, ReadOnly, StrayBits, QueueFull, StoreLength, TableLength, NormalLength, OverlayLength, OutputLength, BelowActive, NoFrameEntry, NoLineEntry, UndefinedEntry, AboveTotal, BadState, WrongRecord, FileEnds, TooMuch}
+use Rattle.rules.specs.Faults.{Numbered, placeIn}
 use Rattle.colour.specs.declared.entry.Entry.{Entry}
 use Rattle.windows.specs.Table.{yend, lineTable, xend, windowId}
 use Rattle.windows.specs.Frame.{frameEntries}
@@ -70,32 +67,11 @@ module _ (setup : Setup) (lent : Lent) where
   NoLineListed x (windowEntry id) = MetListed setup lent x (windowEntry id)
   NoLineListed x (ofColour cell) = ⊥
 
-  -- up to the fault: 5, 6, 10 and 11 come before anything is read, 9 at x meets the pixels up to x; 1 to 4 and 12 to 14 are no line's
-  abbrev pub UpToFault : Refusal → Cell → Type 0
-  UpToFault (NoRegister address) cell = ⊥
-  UpToFault (ReadOnly address) cell = ⊥
-  UpToFault (StrayBits address) cell = ⊥
-  UpToFault (QueueFull address) cell = ⊥
-  UpToFault StoreLength cell = ⊥
-  UpToFault TableLength cell = ⊥
-  UpToFault NormalLength cell = ⊥
-  UpToFault OverlayLength cell = ⊥
-  UpToFault OutputLength cell = ⊥
-  UpToFault (BelowActive y) cell = ⊥
-  UpToFault (NoFrameEntry y) cell = NoFrameListed cell
-  UpToFault (NoLineEntry x) cell = NoLineListed x cell
-  UpToFault (UndefinedEntry x) cell = MetListed setup lent (suc x) cell
-  UpToFault AboveTotal cell = ⊥
-  UpToFault BadState cell = ⊥
-  UpToFault (WrongRecord number) cell = ⊥
-  UpToFault (FileEnds number) cell = ⊥
-  UpToFault (TooMuch number) cell = ⊥
-
-  -- the same by the refusal's number and values
-  pub record RefusedListed (refusal : Numbered) (cell : Cell) : Type 0 where
-    pub named : Refusal
-    pub is : refusal ≡ numbered named
-    pub listed : UpToFault named cell
+  -- up to the fault, by the refusal's number and place: 7 searches all frame entries, 8 at x the whole line table behind the pixels met, 9 at x meets the pixels up to x; any other comes before anything is read
+  pub data RefusedListed (refusal : Numbered) (cell : Cell) : Type 0 where
+    of-7 : refusal .number ≡ 7 → NoFrameListed cell → RefusedListed refusal cell
+    of-8 : refusal .number ≡ 8 → NoLineListed (placeIn refusal) cell → RefusedListed refusal cell
+    of-9 : refusal .number ≡ 9 → MetListed setup lent (suc (placeIn refusal)) cell → RefusedListed refusal cell
 
   -- ---- a line
 

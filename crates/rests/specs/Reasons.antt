@@ -8,9 +8,10 @@ use Rattle.refusals.specs.declared.Refusal.the-variants.{NoFrameEntry, NoLineEn
 use Rattle.colour.specs.Entry.{decoded}
 use Rattle.colour.specs.declared.entry.Entry.{Entry}
 use Rattle.colour.specs.declared.entry.Decoded.the-variants.{Undefined}
-use Rattle.windows.specs.Table.{yend, xend, tableView}
+use Rattle.windows.specs.Table.{yend, tableView}
+use Rattle.windows.specs.Search.{NoneReaches}
 use Rattle.windows.specs.Frame.{frameEntries}
-use Rattle.windows.specs.Ids.{lineEntries, entryByte}
+use Rattle.windows.specs.Ids.{lineEntries, endOf}
 use Rattle.setup.specs.Faults.{lineFaults}
 use Rattle.setup.specs.declared.setup.Setup.{Setup}
 use Rattle.line.specs.Cells.{windowEntry, Lent, view}
@@ -20,13 +21,13 @@ module _ (setup : Setup) (lent : Lent) where
   -- 7: window IDs are on, and every frame entry ends before the line
   pub record NoFrameReaches : Type 0 where
     pub on : setup .controls .ids ≡ true
-    pub short : (number : ℕ) → number < frameEntries (setup .lengths .table) → tableView (lent .table) (yend number) < setup .y
+    pub none : NoneReaches (tableView (lent .table)) yend (frameEntries (setup .lengths .table)) (setup .y)
 
   -- 8 at x: window IDs are on, the line has a table, and every entry of that ends before x
   pub record NoEntryReaches (x : ℕ) : Type 0 where
     pub start : ℕ
     pub starts : StartsAt setup lent start
-    pub short : (number : ℕ) → number < lineEntries (setup .lengths .table) start → tableView (lent .table) (xend (entryByte start number)) < x
+    pub none : NoneReaches (tableView (lent .table)) (endOf start) (lineEntries (setup .lengths .table) start) x
 
   -- 9 at x: the pixel has an ID, which is 0 where window IDs are off, and the ID's window entry is undefined at the depth
   pub record UndefinedAt (x : ℕ) : Type 0 where

@@ -6,7 +6,7 @@ use Rattle.rules.specs.Rule.{ok, run, _>>=_}
 use Rattle.colour.specs.declared.entry.Entry.{Entry}
 use Rattle.windows.specs.Table.{yend, lineTable, xend, windowId, tableView}
 use Rattle.windows.specs.Frame.{frameOf, lineTableOf}
-use Rattle.windows.specs.Ids.{entryByte, lineEntryFrom}
+use Rattle.windows.specs.Ids.{entryByte, lineEntryOf}
 use Rattle.setup.specs.declared.setup.Setup.{Setup}
 use Rattle.line.specs.Cells.{Cell, ofTable, windowEntry, ofColour, Lent, view}
 use Rattle.line.specs.Line.{startOf, idAt, entryAt}
@@ -24,7 +24,7 @@ module _ (setup : Setup) (lent : Lent) where
 
   -- pixel x has this entry of the line table that starts at a byte
   abbrev pub LineEntry : ℕ → ℕ → ℕ → Type 0
-  LineEntry start x entry = run (tableView (lent .table)) (lineEntryFrom (setup .lengths .table) start 0 x) ≡ ok entry
+  LineEntry start x entry = run (tableView (lent .table)) (lineEntryOf (setup .lengths .table) start x) ≡ ok entry
 
   -- pixel x has this ID
   abbrev pub HasId : ℕ → ℕ → Type 0

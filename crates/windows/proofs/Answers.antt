@@ -2,7 +2,6 @@
 use Prim.Native.Nat.{ℕ, suc}
 use mathlib.Core.Path.{_≡_, refl, sym, ap, _∙_}
 use mathlib.Core.List.{List, [], _∷_, _++_}
-use native.Mathlib.Nat.{sub-zero}
 use Rattle.rules.specs.Rule.{Rule, Outcome, ok, refused, run, reads, get, _>>=_, andThen}
 use Rattle.rules.specs.Faults.{Numbered}
 use Rattle.rules.specs.Lists.{values}
@@ -10,12 +9,11 @@ use Rattle.rules.proofs.Cases.{impossible}
 use Rattle.rules.proofs.Then.{run-then, run-ok, run-refused, reads-ok, reads-refused}
 use Rattle.refusals.specs.Refusal.{numbered}
 use Rattle.refusals.specs.declared.Refusal.the-variants.{NoFrameEntry, NoLineEntry}
-use Rattle.windows.specs.Table.{TableCell, yend, lineTable, xend, windowId}
-use Rattle.windows.specs.Search.{entryAt}
+use Rattle.windows.specs.Table.{TableCell, yend, lineTable}
+use Rattle.windows.specs.Search.{entryAt, NoneReaches}
 use Rattle.windows.specs.Frame.{frameEntries, frameOf, lineTableOf}
-use Rattle.windows.specs.Ids.{lineEntries, entryByte, lineEntryFrom, idOf}
-use Rattle.windows.specs.Inner.{Short}
-use Rattle.windows.proofs.Search.{Reached, found-tells, found-reads, missing-tells, missing-named, missing-reads}
+use Rattle.windows.specs.Ids.{lineEntries, endOf, idCell, lineEntryOf, idOf}
+use Rattle.windows.proofs.Whole.{ReachedAt, whole-tells, whole-reads, none-named, none-tells, none-reads}
 
 -- ---- a search, and then a rule that always answers
 
@@ -49,14 +47,14 @@ module _ {R Q A : Type 0} (memory : Q → ℕ) (search : Rule R Q ℕ) (after : 
 -- what it tells that a look-up answers: by the first of `count` entries whose end is at least `position`, and with the ends up to that read
 pub record Answered {R Q : Type 0} (memory : Q → ℕ) (look-up : Rule R Q ℕ) (end value : ℕ → Q) (count position answer : ℕ) : Type 0 where
   pub entry : ℕ
-  pub reached : Reached memory end count 0 position entry
+  pub reached : ReachedAt memory end count position entry
   pub is : memory (value entry) ≡ answer
   pub read : reads memory look-up ≡ values end (suc entry) 0 ++ (value entry ∷ [])
 
 -- what it tells that a look-up refuses: every end is below `position`, and they are all read
 pub record Unanswered {R Q : Type 0} (memory : Q → ℕ) (look-up : Rule R Q ℕ) (missing : R) (end : ℕ → Q) (count position : ℕ) (refusal : R) : Type 0 where
   pub named : refusal ≡ missing
-  pub short : Short memory end 0 count position
+  pub none : NoneReaches memory end count position
   pub read : reads memory look-up ≡ values end count 0
 
 module _ {R Q : Type 0} (memory : Q → ℕ) (missing : R) (end value : ℕ → Q) (count position : ℕ) where
@@ -72,11 +70,11 @@ module _ {R Q : Type 0} (memory : Q → ℕ) (missing : R) (end value : ℕ → 
       let from = answer-from memory (entryAt missing end count position) _ (λ entry. memory (value entry)) (λ entry. refl) e in
       record {
         entry = from .entry;
-        reached = found-tells memory missing end count 0 position (from .found);
+        reached = whole-tells memory missing end count position (from .found);
         is = from .is;
         read =
             reads-ok memory (entryAt missing end count position) _ (from .found)
-            ∙ ap (λ (cells : List Q). cells ++ (value (from .entry) ∷ [])) (rw sub-zero at (found-reads memory missing end count 0 position (from .found)));
+            ∙ ap (λ (cells : List Q). cells ++ (value (from .entry) ∷ [])) (whole-reads memory missing end count position (from .found));
       }
 
   -- from a refusal, what it tells
@@ -84,11 +82,11 @@ module _ {R Q : Type 0} (memory : Q → ℕ) (missing : R) (end value : ℕ → 
   cell-unanswered e =
       let none = refusal-from memory (entryAt missing end count position) _ (λ entry. memory (value entry)) (λ entry. refl) e in
       record {
-        named = missing-named memory missing end count 0 position none;
-        short = missing-tells memory missing end count 0 position none;
+        named = none-named memory missing end count position none;
+        none = none-tells memory missing end count position none;
         read =
             reads-refused memory (entryAt missing end count position) _ none
-            ∙ (rw sub-zero at (missing-reads memory missing end count 0 position none));
+            ∙ none-reads memory missing end count position none;
       }
 
 -- ---- line tables
@@ -118,24 +116,16 @@ module _ (memory : TableCell → ℕ) (length y : ℕ) where
 
 -- ---- IDs
 
--- the end of an entry of the line table that starts at a byte
-abbrev pub endOf : ℕ → ℕ → TableCell
-endOf start entry = xend (entryByte start entry)
-
--- its ID
-abbrev pub idCell : ℕ → ℕ → TableCell
-idCell start entry = windowId (entryByte start entry)
-
 module _ (memory : TableCell → ℕ) (length start x : ℕ) where
   -- the line entry found says the ID
-  pub id-of-entry : {entry : ℕ} → run memory (lineEntryFrom length start 0 x) ≡ ok entry → run memory (idOf length start x) ≡ ok (memory (idCell start entry))
+  pub id-of-entry : {entry : ℕ} → run memory (lineEntryOf length start x) ≡ ok entry → run memory (idOf length start x) ≡ ok (memory (idCell start entry))
   unfolding idOf
-  id-of-entry found = run-ok memory (lineEntryFrom length start 0 x) _ found
+  id-of-entry found = run-ok memory (lineEntryOf length start x) _ found
 
   -- where there is none, neither is an ID
-  pub id-of-none : {refusal : Numbered} → run memory (lineEntryFrom length start 0 x) ≡ refused refusal → run memory (idOf length start x) ≡ refused refusal
+  pub id-of-none : {refusal : Numbered} → run memory (lineEntryOf length start x) ≡ refused refusal → run memory (idOf length start x) ≡ refused refusal
   unfolding idOf
-  id-of-none none = run-refused memory (lineEntryFrom length start 0 x) _ none
+  id-of-none none = run-refused memory (lineEntryOf length start x) _ none
 
   -- a pixel that has an ID has it by the entry reached, and has read the line entries up to that
   pub id-answered : {id : ℕ} → run memory (idOf length start x) ≡ ok id

@@ -1,22 +1,24 @@
 -- The IDs of pixels, carried on from entry to entry: one look-up serves every pixel up to an entry's last. Assumes nothing.
 use Prim.Native.Nat.{ℕ, _+_, _≤_}
 use mathlib.Core.Path.{_≡_, refl}
+use native.Mathlib.Omega.{arith}
 use Rattle.rules.specs.Rule.{ok, refused, run}
 use Rattle.rules.specs.Faults.{Numbered}
 use Rattle.rules.proofs.Then.{run-ok, run-refused}
 use Rattle.refusals.specs.Refusal.{numbered}
 use Rattle.refusals.specs.declared.Refusal.the-variants.{NoLineEntry}
 use Rattle.windows.specs.Table.{TableCell}
-use Rattle.windows.specs.Ids.{lineEntries, lineEntryFrom, idOf}
+use Rattle.windows.specs.Ids.{lineEntries, endOf, idCell, lineEntryFrom, idOf}
 use Rattle.windows.specs.Carried.{foundFrom}
 use Rattle.windows.specs.Inner.{PassedIds}
 use Rattle.windows.specs.declared.ids.Found.{Found}
-use Rattle.windows.proofs.Search.{Reached, short-none, found-tells, finds, missing-whole, reached-stays, reached-whole, reached-passed}
-use Rattle.windows.proofs.Answers.{endOf, idCell, answer-from, refusal-from, id-of-entry, id-of-none}
+use Rattle.windows.proofs.Search.{Reached, found-tells}
+use Rattle.windows.proofs.Whole.{whole-finds, same-entry, reached-whole, reached-passed, missing-whole}
+use Rattle.windows.proofs.Answers.{answer-from, refusal-from, id-of-entry, id-of-none}
 
 -- before entry 0 there are none
 pub passed-start : (memory : TableCell → ℕ) (start x : ℕ) → PassedIds memory start 0 x
-passed-start memory start x = record { passed = short-none 0 x }
+passed-start memory start x = record { passed = record { short = λ entry before. absurd (omega arith) } }
 
 -- what an entry serves: its ID, its last pixel, and the entry to go on from
 abbrev pub servedBy : (TableCell → ℕ) → ℕ → ℕ → Found
@@ -48,7 +50,7 @@ module _ (memory : TableCell → ℕ) (length start from x : ℕ) where
       reaches = here .reaches;
       ids = λ p low high.
           id-of-entry memory length start p
-          (finds memory (numbered (NoLineEntry p)) (endOf start) (lineEntries length start) 0 p (reached-stays (reached-whole (passed .passed) here) low high));
+          (whole-finds memory (numbered (NoLineEntry p)) (endOf start) (lineEntries length start) p (same-entry (reached-whole (passed .passed) here) low high));
       passed = record { passed = reached-passed (passed .passed) here };
     }
 
@@ -64,4 +66,4 @@ module _ (memory : TableCell → ℕ) (length start from x : ℕ) where
     unfolding foundFrom
     refused-serves e =
         let none = refusal-from memory (lineEntryFrom length start from x) _ (servedBy memory start) (λ entry. refl) e in
-        id-of-none memory length start x (missing-whole memory (numbered (NoLineEntry x)) (endOf start) (lineEntries length start) (passed .passed) none)
+        id-of-none memory length start x (missing-whole (passed .passed) (numbered (NoLineEntry x)) (lineEntries length start) none)

@@ -3,8 +3,8 @@ use Prim.Native.Nat.{ℕ, _+_, _<_}
 use Rattle.rules.specs.Rule.{Rule, done, get, _>>=_, Outcome, ok, refused}
 use Rattle.rules.specs.Faults.{Numbered}
 use Rattle.refusals.specs.Refusal.{numbered}
-use Rattle.windows.specs.Table.{TableCell, xend, windowId}
-use Rattle.windows.specs.Ids.{entryByte, lineEntryFrom}
+use Rattle.windows.specs.Table.{TableCell}
+use Rattle.windows.specs.Ids.{endOf, idCell, lineEntryFrom}
 use Rattle.windows.specs.declared.ids.Found.{Found}
 use Rattle.windows.specs.declared.ids.LookedUp.{LookedUp}
 use Rattle.windows.specs.declared.ids.LookedUp.the-variants.{Id, Refused}
@@ -13,8 +13,8 @@ use Rattle.windows.specs.declared.ids.LookedUp.the-variants.{Id, Refused
 unfoldable pub foundFrom : ℕ → ℕ → ℕ → ℕ → Rule Numbered TableCell Found
 foundFrom length start from x = do
   entry ← lineEntryFrom length start from x
-  last ← get (xend (entryByte start entry))
-  id ← get (windowId (entryByte start entry))
+  last ← get (endOf start entry)
+  id ← get (idCell start entry)
   done (record { id = id; last = last; next = entry + 1 })
 
 -- what the look-up's answer says: what was found, or a refusal's number and values

@@ -5,7 +5,7 @@ use Rattle.rules.specs.Faults.{Numbered}
 use Rattle.refusals.specs.Refusal.{numbered}
 use Rattle.refusals.specs.declared.Refusal.the-variants.{NoLineEntry}
 use Rattle.windows.specs.Table.{TableCell, xend, windowId}
-use Rattle.windows.specs.Search.{entryFrom}
+use Rattle.windows.specs.Search.{entryFrom, entryAt}
 
 -- the byte behind the line table that starts at a byte: the 512-byte block that it starts in is over, or the table is
 abbrev pub lineTableEnd : ℕ → ℕ → ℕ
@@ -19,12 +19,24 @@ lineEntries length start = (lineTableEnd length start - start) / 2
 abbrev pub entryByte : ℕ → ℕ → ℕ
 entryByte start entry = start + 2 * entry
 
+-- the end of an entry of it
+abbrev pub endOf : ℕ → ℕ → TableCell
+endOf start entry = xend (entryByte start entry)
+
+-- the ID of an entry of it
+abbrev pub idCell : ℕ → ℕ → TableCell
+idCell start entry = windowId (entryByte start entry)
+
 -- of the line entries, from one on, the first that ends at pixel x or later; none is 8
 abbrev pub lineEntryFrom : ℕ → ℕ → ℕ → ℕ → Rule Numbered TableCell ℕ
-lineEntryFrom length start from x = entryFrom (numbered (NoLineEntry x)) (λ entry. xend (entryByte start entry)) (lineEntries length start) from x
+lineEntryFrom length start from x = entryFrom (numbered (NoLineEntry x)) (endOf start) (lineEntries length start) from x
 
--- the ID of pixel x: that of the first of all
+-- of all of them the first
+abbrev pub lineEntryOf : ℕ → ℕ → ℕ → Rule Numbered TableCell ℕ
+lineEntryOf length start x = entryAt (numbered (NoLineEntry x)) (endOf start) (lineEntries length start) x
+
+-- the ID of pixel x: that of its line entry
 unfoldable pub idOf : ℕ → ℕ → ℕ → Rule Numbered TableCell ℕ
 idOf length start x = do
-  entry ← lineEntryFrom length start 0 x
-  get (windowId (entryByte start entry))
+  entry ← lineEntryOf length start x
+  get (idCell start entry)

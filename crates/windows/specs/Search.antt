@@ -1,5 +1,5 @@
 -- The search for an end, of frame entries and of line entries alike.
-use Prim.Native.Nat.{ℕ, _-_}
+use Prim.Native.Nat.{ℕ, _-_, _<_}
 use lib.Dec.{leb}
 use Rattle.rules.specs.Rule.{Rule}
 use Rattle.rules.specs.First.{firstFrom}
@@ -11,3 +11,7 @@ entryFrom missing end count from position = firstFrom missing end (leb position)
 -- of all of them the first
 abbrev pub entryAt : {R Q : Type 0} → R → (ℕ → Q) → ℕ → ℕ → Rule R Q ℕ
 entryAt missing end count position = entryFrom missing end count 0 position
+
+-- of `count` entries none reaches `position`: each ends before it
+pub record NoneReaches {Q : Type 0} (memory : Q → ℕ) (end : ℕ → Q) (count position : ℕ) : Type 0 where
+  pub short : (entry : ℕ) → entry < count → memory (end entry) < position

@@ -10,9 +10,8 @@ use Rattle.rules.specs.Rule.{ok}
 use Rattle.refusals.specs.Refusal.{numbered}
 use Rattle.refusals.specs.declared.Refusal.the-variants.{NoLineEntry}
 use Rattle.windows.specs.Table.{tableView}
-use Rattle.windows.specs.Ids.{lineEntries}
+use Rattle.windows.specs.Ids.{lineEntries, endOf, idCell}
 use Rattle.windows.proofs.Search.{Searching, search-start, search-next, search-found, search-over}
-use Rattle.windows.proofs.Answers.{endOf, idCell}
 use Rattle.windows.proofs.Pixels.{servedBy, found-of-entry, found-of-none}
 use Rattle.windows.proofs.ids.look_up.Statement.{statement}
 use Rattle.windows.proofs.ids.look_up.Tie as tie
