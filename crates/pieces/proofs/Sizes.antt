@@ -1,17 +1,12 @@
 -- What a session holds keeps its sizes. Assumes nothing.
-use Prim.Native.Nat.{ℕ, _≤_}
+use Prim.Native.Nat.{ℕ}
 use mathlib.Core.Path.{_≡_, refl, sym, subst, _∙_}
 use mathlib.Core.Bool.{Bool}
 use mathlib.Core.List.{List, [], _∷_}
 use native.Mathlib.Omega.{arith}
-use lib.ListN.{length, drop, length-append, length-drop, length-replicate}
-use Rattle.rules.specs.Rule.{Outcome, ok, refused as declined}
-use Rattle.rules.specs.Faults.{Numbered}
-use Rattle.rules.specs.Checked.{verdict}
-use Rattle.rules.proofs.Cases.{impossible}
+use lib.ListN.{length, length-append, length-replicate}
 use Rattle.registers.specs.Store.{storeLength}
 use Rattle.chip.specs.State.{Whole}
-use Rattle.chip.specs.declared.state.State.{State}
 use Rattle.chip.proofs.Good.{fresh-whole}
 use Rattle.history.specs.Calls.{Call, write, dots, after, end}
 use Rattle.history.proofs.Calls.{call-whole}
@@ -26,18 +21,11 @@ use Rattle.records.proofs.Whole.{body-long}
 use Rattle.records.proofs.Accepted.{found-accepted}
 use Rattle.records.proofs.Limits.{table-fits, normal-fits, overlay-fits}
 use Rattle.rooms.specs.Rooms.{longestLine}
-use Rattle.setup.specs.Faults.{lineFaults}
-use Rattle.setup.specs.declared.setup.Setup.{Setup}
-use Rattle.setup.proofs.Fitted.{fitted}
-use Rattle.line.specs.Cells.{Lent, lentOf}
-use Rattle.line.specs.Line.{lineOf}
-use Rattle.line.specs.Drawn.{setupOf, drawn}
-use Rattle.line.specs.Drawn as line
+use Rattle.line.specs.Cells.{lentOf}
 use Rattle.session.specs.Held.{Held, empty, withChip}
 use Rattle.session.specs.Record.{acted, contextOf, stepped}
-use Rattle.rests.proofs.Before.{refused-unread}
 use Rattle.rests.proofs.Answers.{state-stays}
-use Rattle.rests.proofs.Outputs.{colours-length}
+use Rattle.rests.proofs.Outputs.{output-length}
 use Rattle.pieces.specs.Calls.{Roomy}
 use Rattle.pieces.proofs.Step.{by-found}
 
@@ -52,32 +40,6 @@ empty-roomy =
       output-long = length-replicate {A = ℕ} longestLine 0;
       state-whole = fresh-whole;
     }
-
-module _ (state : State) (y : ℕ) (lent : Lent) (output : List ℕ) where
-  -- what the line goes by
-  abbrev given : Setup
-  given = setupOf state y lent (length output)
-
-  -- the output has room for a line that is drawn
-  line-fits : {colours : List ℕ} → lineOf given lent ≡ ok colours → given .controls .width ≤ length output
-  unfolding setupOf
-  line-fits {colours} e = by (verdict (lineFaults given)) refl
-    where
-      by : (outcome : Outcome Numbered (Unit {0})) → verdict (lineFaults given) ≡ outcome → given .controls .width ≤ length output
-      by (ok tt) fine = fitted given fine .output-right
-      by (declined refusal) early = impossible (cc (refused-unread given lent early))
-
-  -- it is as long after a line as before, by what the line comes to
-  length-by : (outcome : Outcome Numbered (List ℕ)) → lineOf given lent ≡ outcome → length (line.after (given .controls .width) output outcome) ≡ length output
-  length-by (ok colours) e =
-      let width = given .controls .width in
-      omega (arith, length-append colours (drop width output), length-drop width output, colours-length given lent e, line-fits e)
-  length-by (declined refusal) e = refl
-
-  -- so after every line
-  output-length : length (drawn state y lent output .0 .1) ≡ length output
-  unfolding drawn
-  output-length = length-by (lineOf given lent) refl
 
 module _ (held : Held) (roomy : Roomy held) where
   -- a call of the chip leaves the sizes
