@@ -12,6 +12,7 @@ use Rattle.timing.proofs.Move.{next-x-lt, next-y-lt}
 use Rattle.timing.proofs.After.{after-x-lt, after-y-lt}
 use Rattle.registers.specs.Blocks.{count}
 use Rattle.registers.specs.Kept.{keptOfControl, fits}
+use Rattle.registers.specs.Access.{waitsIn, waits}
 use Rattle.registers.specs.declared.Block.{Block}
 use Rattle.registers.specs.declared.Block.the-variants.{Control, WindowEntries, ColourMap, GammaMap, CursorGlyph, CursorColours}
 use Rattle.registers.specs.declared.Register.{Register}
@@ -23,7 +24,7 @@ use Rattle.queue.proofs.Order.{sized-pushed, sized-popped}
 use Rattle.queue.proofs.Rule.{both, says-write, good-pushed, good-popped}
 use Rattle.chip.specs.State.{Whole, fresh, controlWord, withPosition, goodWords, goodState}
 use Rattle.chip.specs.Call.{Chip}
-use Rattle.chip.specs.Write.{waitsIn, waits, putIn, put}
+use Rattle.chip.specs.Write.{putIn, put}
 use Rattle.chip.specs.Dot.{drains, afterDot}
 use Rattle.chip.specs.Dots.{afterDots}
 use Rattle.chip.specs.declared.state.State.{State}

@@ -12,12 +12,13 @@ use Rattle.refusals.specs.declared.Fit.{Fit}
 use Rattle.refusals.specs.declared.Fit.the-variants.{Yes, Refused as Unfit}
 use Rattle.registers.specs.Named.{placeOf, named}
 use Rattle.registers.specs.Kept.{fits}
+use Rattle.registers.specs.Access.{readOnly, waits}
 use Rattle.registers.specs.declared.Register.{Register}
 use Rattle.registers.specs.declared.Named.{Named}
 use Rattle.registers.specs.declared.Named.the-variants.{Is, Nothing}
 use Rattle.queue.specs.Queue.{full}
 use Rattle.chip.specs.Call.{Chip}
-use Rattle.chip.specs.Write.{readOnly, waits, registerFaults, put, putNamed, written}
+use Rattle.chip.specs.Write.{registerFaults, put, putNamed, written}
 use Rattle.chip.specs.Inner.{fit, judgedOn, judged}
 use Rattle.chip.specs.declared.write.Verdict.{Verdict}
 use Rattle.chip.specs.declared.write.Verdict.the-variants.{To, Refused}

@@ -14,13 +14,13 @@ use Rattle.timing.specs.declared.Walk.{Walk}
 use Rattle.registers.specs.Named.{placeOf, named}
 use Rattle.registers.specs.Kept.{fits}
 use Rattle.registers.specs.Store.{storeLength}
+use Rattle.registers.specs.Access.{readOnly, waits}
 use Rattle.registers.specs.declared.Named.{Named}
 use Rattle.registers.specs.declared.Named.the-variants.{Is, Nothing}
 use Rattle.queue.specs.Queue.{oldest, popped}
+use Rattle.queue.specs.Waiting.{target}
 use Rattle.chip.specs.State.{controlWord, windowsOf, withQueue, goodState}
 use Rattle.chip.specs.Call.{Chip}
-use Rattle.chip.specs.Write.{readOnly, waits}
-use Rattle.chip.specs.Dot.{target}
 use Rattle.chip.specs.declared.state.State.{State}
 use Rattle.chip.specs.declared.write.Verdict.{Verdict}
 use Rattle.chip.specs.declared.write.Verdict.the-variants.{To, Refused}

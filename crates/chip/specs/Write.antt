@@ -1,8 +1,7 @@
 -- A register write.
 use Prim.Native.Nat.{ℕ}
-use mathlib.Core.Bool.{Bool, true, false, not, _&&_}
+use mathlib.Core.Bool.{Bool, true, not, _&&_}
 use mathlib.Core.List.{List, [], _∷_, _++_}
-use lib.Dec.{leb}
 use lib.ListN.{length, set}
 use Rattle.rules.specs.Rule.{Outcome, ok, refused}
 use Rattle.rules.specs.Faults.{Numbered, Fault, unless}
@@ -11,6 +10,7 @@ use Rattle.refusals.specs.declared.Refusal.the-variants.{NoRegister, ReadOnly, 
 use Rattle.registers.specs.Named.{placeOf, named}
 use Rattle.registers.specs.Kept.{fits}
 use Rattle.registers.specs.Store.{storeIndex}
+use Rattle.registers.specs.Access.{readOnly, waits}
 use Rattle.registers.specs.declared.Block.{Block}
 use Rattle.registers.specs.declared.Block.the-variants.{Control, WindowEntries, ColourMap, GammaMap, CursorGlyph, CursorColours}
 use Rattle.registers.specs.declared.Register.{Register}
@@ -27,32 +27,6 @@ use Rattle.chip.specs.declared.write.Answer.the-variants.{Done, Refused}
 abbrev pub told : Answer → Outcome Numbered (Unit {0})
 told Done = ok tt
 told (Refused refusal) = refused (numbered refusal)
-
--- control words 9 and 10 can only be read
-abbrev pub readOnlyIn : Block → ℕ → Bool
-readOnlyIn Control word = leb 9 word
-readOnlyIn WindowEntries word = false
-readOnlyIn ColourMap word = false
-readOnlyIn GammaMap word = false
-readOnlyIn CursorGlyph word = false
-readOnlyIn CursorColours word = false
-
--- so of a register
-abbrev pub readOnly : Register → Bool
-readOnly register = readOnlyIn (register .block) (register .word)
-
--- only writes to the colour map wait
-abbrev pub waitsIn : Block → Bool
-waitsIn Control = false
-waitsIn WindowEntries = false
-waitsIn ColourMap = true
-waitsIn GammaMap = false
-waitsIn CursorGlyph = false
-waitsIn CursorColours = false
-
--- so of a register
-abbrev pub waits : Register → Bool
-waits register = waitsIn (register .block)
 
 -- a write would wait, and 64 wait
 abbrev pub noRoomFor : State → Register → Bool

@@ -16,12 +16,13 @@ use Rattle.registers.specs.declared.Block.{Block}
 use Rattle.registers.specs.declared.Block.the-variants.{Control, WindowEntries, ColourMap, GammaMap, CursorGlyph, CursorColours}
 use Rattle.registers.proofs.Store.{map-entry-apart}
 use Rattle.queue.specs.Queue.{oldest}
+use Rattle.queue.specs.Waiting.{target}
 use Rattle.queue.specs.declared.Waiting.{Waiting}
 use Rattle.queue.specs.declared.Queue.{Queue}
 use Rattle.chip.specs.State.{fresh, Whole}
 use Rattle.chip.specs.Call.{Chip}
 use Rattle.chip.specs.Write.{putIn}
-use Rattle.chip.specs.Dot.{signalsOf, drains, target, afterDot}
+use Rattle.chip.specs.Dot.{signalsOf, drains, afterDot}
 use Rattle.chip.proofs.Good.{fresh-whole}
 use Rattle.chip.proofs.Fit.{fit-says}
 use Rattle.history.specs.Calls.{Call, end}

@@ -9,6 +9,7 @@ use lib.Dec.{ltb}
 use lib.ListN.{length, length-append}
 use Rattle.rules.specs.Rule.{ok}
 use Rattle.timing.specs.declared.Signals.{Signals}
+use Rattle.registers.specs.Access.{waitsIn}
 use Rattle.registers.specs.declared.Block.{Block}
 use Rattle.registers.specs.declared.Block.the-variants.{Control, WindowEntries, ColourMap, GammaMap, CursorGlyph, CursorColours}
 use Rattle.registers.specs.declared.Named.the-variants.{Is}
@@ -19,7 +20,7 @@ use Rattle.queue.proofs.Order.{waiting-pushed, waiting-popped, waiting-front, l
 use Rattle.queue.proofs.Rule as rule
 use Rattle.chip.specs.State.{fresh, goodState, Whole}
 use Rattle.chip.specs.Call.{Chip}
-use Rattle.chip.specs.Write.{waitsIn, putIn}
+use Rattle.chip.specs.Write.{putIn}
 use Rattle.chip.specs.Dot.{signalsOf, drains, afterDot}
 use Rattle.chip.proofs.Good.{good-says, not-full, fresh-whole, fresh-good}
 use Rattle.chip.proofs.Fit.{fit-says}

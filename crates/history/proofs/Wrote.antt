@@ -11,13 +11,14 @@ use Rattle.rules.proofs.Faults.{none-holds, accepted-clear, refused-leaves}
 use Rattle.registers.specs.Blocks.{count}
 use Rattle.registers.specs.Named.{placeOf, named}
 use Rattle.registers.specs.Kept.{fits}
+use Rattle.registers.specs.Access.{waits}
 use Rattle.registers.specs.declared.Register.{Register}
 use Rattle.registers.specs.declared.Named.{Named}
 use Rattle.registers.specs.declared.Named.the-variants.{Is, Nothing}
 use Rattle.registers.proofs.Naming.{named-word}
 use Rattle.queue.specs.Queue.{full}
 use Rattle.chip.specs.Call.{Chip}
-use Rattle.chip.specs.Write.{waits, registerFaults, writeFaults, put, putNamed, written}
+use Rattle.chip.specs.Write.{registerFaults, writeFaults, put, putNamed, written}
 use Rattle.chip.proofs.Fit.{GoesOn, says-fit}
 use Rattle.history.specs.Calls.{write}
 use Rattle.history.specs.Ledger.{colourWrite, acceptedBy, accepts}

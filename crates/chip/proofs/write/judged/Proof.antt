@@ -6,8 +6,8 @@ use borrow.Author.Tests.{not-true, not-false}
 use Rattle.refusals.specs.declared.Fit.the-variants.{Yes}
 use Rattle.registers.specs.Named.{named}
 use Rattle.registers.specs.Kept.{fits}
+use Rattle.registers.specs.Access.{readOnly, waits}
 use Rattle.registers.specs.declared.Named.the-variants.{Is}
-use Rattle.chip.specs.Write.{readOnly, waits}
 use Rattle.chip.proofs.Writes.{judged-unfit, judged-nowhere, judged-read-only, judged-stray, judged-full, judged-to}
 use Rattle.chip.proofs.write.judged.Statement.{statement}
 use Rattle.chip.proofs.write.judged.Tie as tie
