@@ -21,9 +21,9 @@ use Rattle.registers.specs.Store.{storeLength}
 use Rattle.queue.proofs.Rule.{both}
 use Rattle.chip.specs.State.{controlWord, windowsOf, withPosition, goodState, Whole}
 use Rattle.chip.specs.Call.{Chip}
-use Rattle.chip.specs.Dot.{signalsOf, drains, moved, afterDot, dotted}
+use Rattle.chip.specs.Dot.{signalsOf, drains, oldestApplied, moved, afterDot, dotted}
 use Rattle.chip.specs.Dots.{afterDots, lastReport, ran}
-use Rattle.chip.specs.Inner.{fit, applied, walk}
+use Rattle.chip.specs.Inner.{fit, walk}
 use Rattle.chip.specs.declared.state.State.{State}
 use Rattle.chip.specs.declared.dots.Report.the-variants.{Nothing, Last}
 use Rattle.chip.proofs.Good.{dot-length, dot-whole, dot-good, placed-good, dots-add}
@@ -32,7 +32,7 @@ use Rattle.chip.proofs.Fit.{fit-on, fit-off}
 module _ (state : State) (store : List ℕ) where
   -- a dot that drains the queue applies its oldest write and moves
   pub draining-dot : drains state ≡ true
-      → afterDot (state, store) ≡ (moved (applied (state, store) .0), applied (state, store) .1)
+      → afterDot (state, store) ≡ (moved (oldestApplied (state, store) .0), oldestApplied (state, store) .1)
   unfolding afterDot
   draining-dot draining = simp draining refl
 

@@ -29,12 +29,15 @@ signalsOf state = signalsAt (windowsOf state) (state .at)
 unfoldable pub drains : State → Bool
 drains state = signalsOf state .blank && ltb 0 (state .queue .waiting)
 
--- if blanked and something waits, the oldest write leaves the queue for its place in the store
+-- the oldest write leaves the queue for its place in the store
+abbrev pub oldestApplied : Chip → Chip
+oldestApplied chip =
+    let write = oldest (chip .0 .queue) in
+    (withQueue (chip .0) (popped (chip .0 .queue)), set (chip .1) (target write) (write .colour))
+
+-- so at a dot that is blanked where something waits
 abbrev pub drained : Chip → Chip
-drained chip = (
-  withQueue (chip .0) (cond (drains (chip .0)) (popped (chip .0 .queue)) (chip .0 .queue)),
-  cond (drains (chip .0)) (set (chip .1) (target (oldest (chip .0 .queue))) (oldest (chip .0 .queue) .colour)) (chip .1),
-)
+drained chip = cond (drains (chip .0)) (oldestApplied chip) chip
 
 -- the position moves on, by control word 1
 abbrev pub moved : State → State

@@ -6,8 +6,7 @@ ghost use lib.Dec.{ltb};
 ghost use lib.ListN.{length};
 ghost use Rattle.registers.specs.Store.{storeLength};
 ghost use Rattle.chip.specs.State.{goodState};
-ghost use Rattle.chip.specs.Dot.{told, signalsOf, moved, afterDot, dotted};
-ghost use Rattle.chip.specs.Inner.{applied};
+ghost use Rattle.chip.specs.Dot.{told, signalsOf, oldestApplied, moved, afterDot, dotted};
 use crate::state::State;
 use refusals::Fit;
 use refusals::Refusal;
@@ -53,7 +52,7 @@ impl State {
     // The oldest write goes from the queue into its place in the store.
     fn applied(mut self, store: &mut [u32]) -> Self
         requires { ⌜ (goodState self ≡ true) × (0 < self .queue .waiting) × (length (now store) ≡ storeLength) ⌝ }
-        ensures { λ r. ⌜ (r, now (store .exit)) ≡ applied (self, now (store .entry)) ⌝ }
+        ensures { λ r. ⌜ (r, now (store .exit)) ≡ oldestApplied (self, now (store .entry)) ⌝ }
     {
         let queue = self.queue;
         let oldest = queue.oldest();
