@@ -19,7 +19,6 @@ use Rattle.registers.specs.declared.Named.the-variants.{Is, Nothing}
 use Rattle.queue.specs.Queue.{full, pushed}
 use Rattle.chip.specs.State.{withWord, withQueue}
 use Rattle.chip.specs.Call.{Chip, callFaults}
-use Rattle.chip.specs.declared.state.State.{State}
 use Rattle.chip.specs.declared.write.Answer.{Answer}
 use Rattle.chip.specs.declared.write.Answer.the-variants.{Done, Refused}
 
@@ -28,22 +27,22 @@ abbrev pub told : Answer → Outcome Numbered (Unit {0})
 told Done = ok tt
 told (Refused refusal) = refused (numbered refusal)
 
--- a write would wait, and 64 wait
-abbrev pub noRoomFor : State → Register → Bool
-noRoomFor state register = waits register && full (state .queue)
-
--- what a write of a value to what its address names is refused for, at the address: 1, 2, 3, 4
-abbrev pub registerFaults : Chip → Named → ℕ → ℕ → List Fault
-registerFaults chip Nothing place value = fault (NoRegister place) true ∷ []
-registerFaults chip (Is register) place value =
+-- what a write of a value to what its address names is refused for, at the address, by whether the queue is full: 1, 2, 3, 4
+abbrev pub registerFaults : Bool → Named → ℕ → ℕ → List Fault
+registerFaults full Nothing place value = fault (NoRegister place) true ∷ []
+registerFaults full (Is register) place value =
     fault (ReadOnly place) (readOnly register)
     ∷ fault (StrayBits place) (not (fits register value))
-    ∷ fault (QueueFull place) (noRoomFor (chip .0) register)
+    ∷ fault (QueueFull place) (waits register && full)
     ∷ []
+
+-- so of an address
+abbrev pub addressFaults : Bool → ℕ → ℕ → List Fault
+addressFaults full address value = registerFaults full (named address) (placeOf address) value
 
 -- 11, 5, 1, 2, 3, 4
 abbrev pub writeFaults : Chip → ℕ → ℕ → List Fault
-writeFaults chip address value = callFaults (chip .0) (length (chip .1)) ++ registerFaults chip (named address) (placeOf address) value
+writeFaults chip address value = callFaults (chip .0) (length (chip .1)) ++ addressFaults (full (chip .0 .queue)) address value
 
 -- a control word is the state's, a colour write joins the queue, every other word is the store's
 abbrev pub putIn : Chip → Block → Register → ℕ → Chip

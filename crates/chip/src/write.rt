@@ -4,12 +4,13 @@ ghost use mathlib.Core.Path.{_≡_};
 ghost use mathlib.Core.Bool.{false};
 ghost use lib.ListN.{length};
 ghost use Rattle.registers.specs.Blocks.{count};
+ghost use Rattle.registers.specs.Named.{named};
 ghost use Rattle.registers.specs.Store.{storeLength};
 ghost use Rattle.registers.specs.Access.{readOnly};
 ghost use Rattle.queue.specs.Queue.{pushed};
 ghost use Rattle.chip.specs.State.{withWord, withQueue};
 ghost use Rattle.chip.specs.Write.{put, told, written};
-ghost use Rattle.chip.specs.Inner.{judged};
+ghost use Rattle.chip.specs.Inner.{writeTest, Judged};
 use crate::state::State;
 use queue::Waiting;
 use refusals::Fit;
@@ -38,7 +39,7 @@ enum Verdict {
 
 // What becomes of a write, by whether the call may go on, by its address and value and by whether the queue is full.
 fn judged(fit: Fit, address: u32, value: u32, full: bool) -> Verdict
-    ensures { λ r. ⌜ r ≡ judged fit address value full ⌝ }
+    ensures { λ r. ⌜ Judged (writeTest fit full address value) (named address) r ⌝ }
 {
     if let Fit::Refused(refusal) = fit {
         return Verdict::Refused(refusal);
@@ -54,8 +55,8 @@ fn judged(fit: Fit, address: u32, value: u32, full: bool) -> Verdict
     if !register.fits(value) {
         return Verdict::Refused(Refusal::StrayBits(place));
     }
-    if full {
-        if register.waits() {
+    if register.waits() {
+        if full {
             return Verdict::Refused(Refusal::QueueFull(place));
         }
     }

@@ -42,10 +42,10 @@ module _ (chip : Chip) (address value : ℕ) where
   wrote-on : Clear (writeFaults chip address value) → (names : Named) → named address ≡ names → Wrote chip address value
   unfolding written accepts
   wrote-on clear Nothing e =
-      let wrong : Clear (registerFaults chip Nothing (placeOf address) value) = rw e at (clear .1 .1) in
+      let wrong : Clear (registerFaults (full (chip .0 .queue)) Nothing (placeOf address) value) = rw e at (clear .1 .1) in
       absurd (true≢false (wrong .0))
   wrote-on clear (Is register) e =
-      let own : Clear (registerFaults chip (Is register) (placeOf address) value) = rw e at (clear .1 .1) in
+      let own : Clear (registerFaults (full (chip .0 .queue)) (Is register) (placeOf address) value) = rw e at (clear .1 .1) in
       let does = none-holds chip (putNamed chip (named address) value, tt) (writeFaults chip address value) clear in
       into register
       record {
