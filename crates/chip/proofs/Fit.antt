@@ -1,74 +1,52 @@
 -- What a call's first test says: it may go on, or it is refused by 11 or 5. Assumes nothing.
 use Prim.Native.Nat.{ℕ}
-use mathlib.Core.Path.{_≡_, refl, ap, _∙_}
-use mathlib.Core.Bool.{Bool, true, false, false≢true, cond, not}
-use mathlib.Core.List.{List, _++_}
-use borrow.Author.Tests.{eqb-true, eq-eqb}
-use lib.Dec.{eqb}
+use mathlib.Core.Path.{_≡_, refl, ap}
+use mathlib.Core.Bool.{Bool, true, false, not, cond}
+use mathlib.Core.List.{List, [], _∷_, _++_}
+use borrow.Author.Tests.{eqb-true, eq-eqb, not-false}
 use lib.ListN.{length}
-use Rattle.rules.specs.Rule.{Outcome, refused}
+use Rattle.rules.specs.Rule.{Outcome, ok, refused, andThen}
 use Rattle.rules.specs.Faults.{Numbered, Fault, unless}
-use Rattle.refusals.specs.Refusal.{numbered}
-use Rattle.refusals.specs.declared.Refusal.{Refusal}
-use Rattle.refusals.specs.declared.Refusal.the-variants.{StoreLength, BadState}
-use Rattle.refusals.specs.declared.Fit.{Fit}
-use Rattle.refusals.specs.declared.Fit.the-variants.{Yes, Refused}
+use Rattle.rules.specs.Checked.{verdict}
+use Rattle.rules.proofs.Faults.{none-holds, first-holds}
+use Rattle.rules.proofs.Checked.{verdict-clear, first-verdict, clear-verdict}
 use Rattle.registers.specs.Store.{storeLength}
 use Rattle.chip.specs.State.{goodState}
 use Rattle.chip.specs.Call.{Chip, callFaults}
-use Rattle.chip.specs.Inner.{fit}
 use Rattle.chip.specs.declared.state.State.{State}
 
--- a call may go on with this state and this store
+-- what a call's first test says of a state and a store
+abbrev pub tested : Chip → Outcome Numbered (Unit {0})
+tested chip = verdict (callFaults (chip .0) (length (chip .1)))
+
+-- a call may go on with them
 abbrev pub GoesOn : Chip → Type 0
-GoesOn chip = fit (chip .0) (length (chip .1)) ≡ Yes
-
--- the test says so
-abbrev goesOn : Fit → Bool
-goesOn Yes = true
-goesOn (Refused refusal) = false
-
--- both tests of a call that may go on
-fit-parts : (good right : Bool) → cond good (cond right Yes (Refused StoreLength)) (Refused BadState) ≡ Yes → (good ≡ true) × (right ≡ true)
-fit-parts true true e = (refl, refl)
-fit-parts true false e = absurd (false≢true (ap goesOn e))
-fit-parts false right e = absurd (false≢true (ap goesOn e))
+GoesOn chip = tested chip ≡ ok tt
 
 module _ (state : State) (size : ℕ) where
   -- then the state keeps its rule, and the store has its length
-  pub fit-says : fit state size ≡ Yes → (goodState state ≡ true) × (size ≡ storeLength)
-  unfolding fit
-  fit-says e = let both = fit-parts (goodState state) (eqb size storeLength) e in (both .0, eqb-true _ _ (both .1))
+  pub fit-says : verdict (callFaults state size) ≡ ok tt → (goodState state ≡ true) × (size ≡ storeLength)
+  fit-says e = let clear = clear-verdict (callFaults state size) e in (not-false _ (clear .0), eqb-true _ _ (not-false _ (clear .1 .0)))
 
   -- and that is all that it asks
-  pub says-fit : goodState state ≡ true → size ≡ storeLength → fit state size ≡ Yes
-  unfolding fit
-  says-fit good right = simp (good, eq-eqb _ _ right)
+  pub says-fit : goodState state ≡ true → size ≡ storeLength → verdict (callFaults state size) ≡ ok tt
+  says-fit good right = verdict-clear (callFaults state size) (ap not good, (ap not (eq-eqb size storeLength right), tt))
 
-  module _ {Memory Answer : Type 0} (others : List Fault) (before : Memory) (done : Memory × Answer) where
-    -- what a call comes to by its first test
-    by-fit : Fit → Memory × Outcome Numbered Answer
-    by-fit Yes = unless others before done
-    by-fit (Refused refusal) = (before, refused (numbered refusal))
+-- the first faults decide, else those behind them
+pub first-then : (faults others : List Fault) → verdict (faults ++ others) ≡ andThen (verdict faults) (λ passed. verdict others)
+first-then [] others = refl
+first-then (fault ∷ faults) others = by (fault .holds) (first-then faults others)
+  where
+    by : (test : Bool) → verdict (faults ++ others) ≡ andThen (verdict faults) (λ passed. verdict others)
+        → cond test (refused (fault .refusal)) (verdict (faults ++ others)) ≡ andThen (cond test (refused (fault .refusal)) (verdict faults)) (λ passed. verdict others)
+    by true rest = refl
+    by false rest = rest
 
-    -- the first faults of a call are that test
-    fit-decides : unless (callFaults state size ++ others) before done ≡ by-fit (fit state size)
-    unfolding fit by-fit
-    fit-decides = by (goodState state) (eqb size storeLength)
-      where
-        by : (good right : Bool)
-            → cond (not good) (before, refused (numbered BadState)) (cond (not right) (before, refused (numbered StoreLength)) (unless others before done))
-            ≡ by-fit (cond good (cond right Yes (Refused StoreLength)) (Refused BadState))
-        by true true = refl
-        by true false = refl
-        by false right = refl
+module _ {Memory Answer : Type 0} (before : Memory) (done : Memory × Answer) (faults : List Fault) where
+  -- a call of which no fault holds does what it does
+  pub passes : verdict faults ≡ ok tt → unless faults before done ≡ (done .0, ok (done .1))
+  passes e = none-holds before done faults (clear-verdict faults e)
 
-    -- the first faults of a call that may go on decide nothing
-    pub fit-on : fit state size ≡ Yes → unless (callFaults state size ++ others) before done ≡ unless others before done
-    unfolding by-fit
-    fit-on e = fit-decides ∙ ap by-fit e
-
-    -- those of one that may not are its refusal
-    pub fit-off : (refusal : Refusal) → fit state size ≡ Refused refusal → unless (callFaults state size ++ others) before done ≡ (before, refused (numbered refusal))
-    unfolding by-fit
-    fit-off refusal e = fit-decides ∙ ap by-fit e
+  -- any other is refused by the first that does, and leaves all as it was
+  pub stops : (refusal : Numbered) → verdict faults ≡ refused refusal → unless faults before done ≡ (before, refused refusal)
+  stops refusal e = first-holds before done faults refusal (first-verdict faults refusal e)

@@ -12,10 +12,11 @@ use Rattle.timing.proofs.Move.{next-x-lt, next-y-lt}
 use Rattle.timing.proofs.After.{after-x-lt, after-y-lt}
 use Rattle.registers.specs.Blocks.{count}
 use Rattle.registers.specs.Kept.{keptOfControl, fits}
+use Rattle.registers.specs.Access.{waitsIn, waits}
 use Rattle.registers.specs.declared.Block.{Block}
 use Rattle.registers.specs.declared.Block.the-variants.{Control, WindowEntries, ColourMap, GammaMap, CursorGlyph, CursorColours}
 use Rattle.registers.specs.declared.Register.{Register}
-use Rattle.queue.specs.Queue.{full, Sized}
+use Rattle.queue.specs.Queue.{full}
 use Rattle.queue.specs.Good.{goodQueue}
 use Rattle.queue.specs.declared.Waiting.{Waiting}
 use Rattle.queue.specs.declared.Queue.{Queue}
@@ -23,8 +24,8 @@ use Rattle.queue.proofs.Order.{sized-pushed, sized-popped}
 use Rattle.queue.proofs.Rule.{both, says-write, good-pushed, good-popped}
 use Rattle.chip.specs.State.{Whole, fresh, controlWord, withPosition, goodWords, goodState}
 use Rattle.chip.specs.Call.{Chip}
-use Rattle.chip.specs.Write.{waitsIn, waits, putIn, put}
-use Rattle.chip.specs.Dot.{drains, afterDot}
+use Rattle.chip.specs.Write.{putIn, put}
+use Rattle.chip.specs.Dot.{drains, oldestApplied, moved, afterDot}
 use Rattle.chip.specs.Dots.{afterDots}
 use Rattle.chip.specs.declared.state.State.{State}
 
@@ -138,27 +139,37 @@ module _ (chip : Chip) (register : Register) (value : ℕ) where
 
 -- ---- dots
 
+-- a move keeps the rule
+moved-good : (state : State) → goodState state ≡ true → goodState (moved state) ≡ true
+moved-good state good =
+    let said = good-says state good in
+    says-good (moved state) (said .0)
+    (omega (arith, next-x-lt (state .at) (controlWord state 1)))
+    (omega (arith, next-y-lt (state .at) (controlWord state 1) (omega (arith, said .2))))
+    (said .3)
+
 module _ (chip : Chip) where
   -- a dot leaves as many words in the store
   pub dot-length : length (afterDot chip .1) ≡ length (chip .1)
   unfolding afterDot
-  dot-length = chosen (λ (store : List ℕ). length store ≡ length (chip .1)) (drains (chip .0)) (simp length-set) refl
+  dot-length = chosen (λ (after : Chip). length (after .1) ≡ length (chip .1)) (drains (chip .0)) (simp length-set) refl
 
   module _ (whole : Whole (chip .0)) where
     -- a dot leaves the arrays their sizes
     pub dot-whole : Whole (afterDot chip .0)
     unfolding afterDot
-    dot-whole = (whole .0, chosen Sized (drains (chip .0)) (sized-popped (chip .0 .queue) (whole .1)) (whole .1))
+    dot-whole = chosen (λ (after : Chip). Whole (after .0)) (drains (chip .0)) (whole .0, sized-popped (chip .0 .queue) (whole .1)) whole
+
+    -- the oldest write may leave
+    applied-good : goodState (chip .0) ≡ true → goodState (oldestApplied chip .0) ≡ true
+    applied-good good =
+        let said = good-says (chip .0) good in
+        says-good (oldestApplied chip .0) (said .0) (said .1) (said .2) (good-popped (chip .0 .queue) (whole .1) (said .3))
 
     -- a dot keeps the rule
     pub dot-good : goodState (chip .0) ≡ true → goodState (afterDot chip .0) ≡ true
     unfolding afterDot
-    dot-good good =
-        let said = good-says (chip .0) good in
-        says-good (afterDot chip .0) (said .0)
-        (omega (arith, next-x-lt (chip .0 .at) (controlWord (chip .0) 1)))
-        (omega (arith, next-y-lt (chip .0 .at) (controlWord (chip .0) 1) (omega (arith, said .2))))
-        (chosen (λ (queue : Queue). goodQueue queue ≡ true) (drains (chip .0)) (good-popped (chip .0 .queue) (whole .1) (said .3)) (said .3))
+    dot-good good = chosen (λ (after : Chip). goodState (moved (after .0)) ≡ true) (drains (chip .0)) (moved-good (oldestApplied chip .0) (applied-good good)) (moved-good (chip .0) good)
 
 -- a move, so many times over, keeps the rule
 pub placed-good : (state : State) (count word : ℕ) → goodState state ≡ true → goodState (withPosition state (positionAfter (state .at) count word)) ≡ true

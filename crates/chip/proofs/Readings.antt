@@ -1,41 +1,38 @@
 -- What a read comes to, case by case in the order of its faults. Assumes nothing.
 use Prim.Native.Nat.{ℕ}
-use mathlib.Core.Path.{_≡_, ap, _∙_}
+use mathlib.Core.Path.{_≡_, refl, ap, sym, _∙_}
 use lib.ListN.{length}
-use Rattle.rules.specs.Rule.{ok, refused}
-use Rattle.rules.specs.Faults.{unless}
+use Rattle.rules.specs.Rule.{Outcome, ok, refused, andThen}
+use Rattle.rules.specs.Faults.{Numbered}
+use Rattle.rules.specs.Checked.{verdict}
 use Rattle.refusals.specs.Refusal.{numbered}
-use Rattle.refusals.specs.declared.Refusal.{Refusal}
 use Rattle.refusals.specs.declared.Refusal.the-variants.{NoRegister}
-use Rattle.refusals.specs.declared.Fit.the-variants.{Yes, Refused}
 use Rattle.registers.specs.Named.{placeOf, named}
 use Rattle.registers.specs.declared.Register.{Register}
 use Rattle.registers.specs.declared.Named.{Named}
 use Rattle.registers.specs.declared.Named.the-variants.{Is, Nothing}
-use Rattle.chip.specs.Call.{Chip}
-use Rattle.chip.specs.Read.{nameFaults, shown, shownNamed, readBack}
-use Rattle.chip.specs.Inner.{fit}
-use Rattle.chip.proofs.Fit.{fit-on, fit-off}
+use Rattle.chip.specs.Call.{Chip, callFaults}
+use Rattle.chip.specs.Read.{shown, shownNamed, nameFaults, readFaults, readBack}
+use Rattle.chip.proofs.Fit.{tested, GoesOn, first-then, passes, stops}
 
 module _ (chip : Chip) (address : ℕ) where
+  -- a read by its first test, and then by what its address names
+  read-test : {first : Outcome Numbered (Unit {0})} {what : Named} → tested chip ≡ first → named address ≡ what
+      → verdict (readFaults chip address) ≡ andThen first (λ passed. verdict (nameFaults what (placeOf address)))
+  read-test e names = rw (sym e, sym names) (first-then (callFaults (chip .0) (length (chip .1))) (nameFaults (named address) (placeOf address)))
+
   -- 11 and 5
-  pub read-unfit : (refusal : Refusal) → fit (chip .0) (length (chip .1)) ≡ Refused refusal → readBack chip address ≡ (chip, refused (numbered refusal))
+  pub read-unfit : (refusal : Numbered) → tested chip ≡ refused refusal → readBack chip address ≡ (chip, refused refusal)
   unfolding readBack
-  read-unfit refusal e =
-      fit-off (chip .0) (length (chip .1)) (nameFaults (named address) (placeOf address)) chip (chip, shownNamed chip (named address)) refusal e
+  read-unfit refusal e = stops chip _ (readFaults chip address) refusal (read-test e refl)
 
-  module _ (fine : fit (chip .0) (length (chip .1)) ≡ Yes) where
-    -- a read that may go on, by what its address names
-    read-by : (what : Named) → named address ≡ what → readBack chip address ≡ unless (nameFaults what (placeOf address)) chip (chip, shownNamed chip what)
-    unfolding readBack
-    read-by what e =
-        fit-on (chip .0) (length (chip .1)) (nameFaults (named address) (placeOf address)) chip (chip, shownNamed chip (named address)) fine
-        ∙ ap (λ (what : Named). unless (nameFaults what (placeOf address)) chip (chip, shownNamed chip what)) e
-
+  module _ (fine : GoesOn chip) where
     -- 1
     pub read-nowhere : named address ≡ Nothing → readBack chip address ≡ (chip, refused (numbered (NoRegister (placeOf address))))
-    read-nowhere e = read-by Nothing e
+    unfolding readBack
+    read-nowhere e = stops chip _ (readFaults chip address) _ (read-test fine e)
 
     -- none of them
     pub read-shown : (register : Register) → named address ≡ Is register → readBack chip address ≡ (chip, ok (shown chip register))
-    read-shown register e = read-by (Is register) e
+    unfolding readBack
+    read-shown register e = passes chip _ (readFaults chip address) (read-test fine e) ∙ ap (λ (what : Named). (chip, ok (shownNamed chip what))) e

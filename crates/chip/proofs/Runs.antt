@@ -2,15 +2,13 @@
 use Prim.Native.Nat.{ℕ, zero, suc, _+_, _-_, _≤_, _<_}
 use mathlib.Core.Path.{_≡_, refl, ap, sym, _∙_}
 use mathlib.Core.Bool.{Bool, true, false, cond, _&&_}
-use mathlib.Core.List.{List, []}
+use mathlib.Core.List.{List}
 use native.Mathlib.Omega.{arith}
 use borrow.Author.Tests.{ltb-true, le-ltb, eqb-true}
 use lib.Dec.{ltb, eqb}
 use lib.ListN.{length}
 use Rattle.rules.specs.Rule.{ok, refused}
-use Rattle.refusals.specs.Refusal.{numbered}
-use Rattle.refusals.specs.declared.Refusal.{Refusal}
-use Rattle.refusals.specs.declared.Fit.the-variants.{Yes, Refused}
+use Rattle.rules.specs.Faults.{Numbered}
 use Rattle.timing.specs.Signals.{signalsAt}
 use Rattle.timing.specs.Move.{positionAfter}
 use Rattle.timing.specs.Walk.{walked}
@@ -20,19 +18,19 @@ use Rattle.timing.proofs.Walked.{walk-stops, walk-runs, walk-left-le, walk-at}
 use Rattle.registers.specs.Store.{storeLength}
 use Rattle.queue.proofs.Rule.{both}
 use Rattle.chip.specs.State.{controlWord, windowsOf, withPosition, goodState, Whole}
-use Rattle.chip.specs.Call.{Chip}
-use Rattle.chip.specs.Dot.{signalsOf, drains, moved, afterDot, dotted}
+use Rattle.chip.specs.Call.{Chip, callFaults}
+use Rattle.chip.specs.Dot.{signalsOf, drains, oldestApplied, moved, afterDot, dotted}
 use Rattle.chip.specs.Dots.{afterDots, lastReport, ran}
-use Rattle.chip.specs.Inner.{fit, applied, walk}
+use Rattle.chip.specs.Inner.{walk}
 use Rattle.chip.specs.declared.state.State.{State}
 use Rattle.chip.specs.declared.dots.Report.the-variants.{Nothing, Last}
 use Rattle.chip.proofs.Good.{dot-length, dot-whole, dot-good, placed-good, dots-add}
-use Rattle.chip.proofs.Fit.{fit-on, fit-off}
+use Rattle.chip.proofs.Fit.{tested, GoesOn, passes, stops}
 
 module _ (state : State) (store : List ℕ) where
   -- a dot that drains the queue applies its oldest write and moves
   pub draining-dot : drains state ≡ true
-      → afterDot (state, store) ≡ (moved (applied (state, store) .0), applied (state, store) .1)
+      → afterDot (state, store) ≡ (moved (oldestApplied (state, store) .0), oldestApplied (state, store) .1)
   unfolding afterDot
   draining-dot draining = simp draining refl
 
@@ -164,25 +162,25 @@ module _ (start : Chip) (count : ℕ) (state : State) (store : List ℕ) (left :
 
 module _ (chip : Chip) where
   -- 11 and 5
-  pub dot-unfit : (refusal : Refusal) → fit (chip .0) (length (chip .1)) ≡ Refused refusal → dotted chip ≡ (chip, refused (numbered refusal))
+  pub dot-unfit : (refusal : Numbered) → tested chip ≡ refused refusal → dotted chip ≡ (chip, refused refusal)
   unfolding dotted
-  dot-unfit refusal e = fit-off (chip .0) (length (chip .1)) [] chip _ refusal e
+  dot-unfit refusal e = stops chip _ (callFaults (chip .0) (length (chip .1))) refusal e
 
   -- neither
-  pub dot-done : fit (chip .0) (length (chip .1)) ≡ Yes → dotted chip ≡ (afterDot chip, ok (signalsOf (chip .0)))
+  pub dot-done : GoesOn chip → dotted chip ≡ (afterDot chip, ok (signalsOf (chip .0)))
   unfolding dotted
-  dot-done fine = fit-on (chip .0) (length (chip .1)) [] chip _ fine
+  dot-done fine = passes chip _ (callFaults (chip .0) (length (chip .1))) fine
 
   module _ (count : ℕ) where
     -- 11 and 5
-    pub dots-unfit : (refusal : Refusal) → fit (chip .0) (length (chip .1)) ≡ Refused refusal → ran chip count ≡ (chip, refused (numbered refusal))
+    pub dots-unfit : (refusal : Numbered) → tested chip ≡ refused refusal → ran chip count ≡ (chip, refused refusal)
     unfolding ran
-    dots-unfit refusal e = fit-off (chip .0) (length (chip .1)) [] chip _ refusal e
+    dots-unfit refusal e = stops chip _ (callFaults (chip .0) (length (chip .1))) refusal e
 
     -- neither
-    pub dots-done : fit (chip .0) (length (chip .1)) ≡ Yes → ran chip count ≡ (afterDots count chip, ok (lastReport count chip))
+    pub dots-done : GoesOn chip → ran chip count ≡ (afterDots count chip, ok (lastReport count chip))
     unfolding ran
-    dots-done fine = fit-on (chip .0) (length (chip .1)) [] chip _ fine
+    dots-done fine = passes chip _ (callFaults (chip .0) (length (chip .1))) fine
 
   -- a run ends with its last dot
   dots-last : (count : ℕ) → afterDots (suc count) chip ≡ afterDot (afterDots count chip)
@@ -191,7 +189,7 @@ module _ (chip : Chip) where
       let e : suc count ≡ count + 1 = omega arith in
       ap (λ (count : ℕ). afterDots count chip) e ∙ dots-add count 1 chip
 
-  module _ (count : ℕ) (fine : fit (chip .0) (length (chip .1)) ≡ Yes) where
+  module _ (count : ℕ) (fine : GoesOn chip) where
     -- no dot reports nothing
     pub dots-none : count ≡ 0 → ran chip count ≡ (chip, ok Nothing)
     unfolding afterDots lastReport

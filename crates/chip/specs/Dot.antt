@@ -1,5 +1,4 @@
 -- A dot, in three steps: the signals where the beam is, a waiting colour into the store where they say blank, the beam one position on.
-use Prim.Native.Nat.{ℕ}
 use mathlib.Core.Bool.{Bool, cond, _&&_}
 use lib.Dec.{ltb}
 use lib.ListN.{length, set}
@@ -9,10 +8,8 @@ use Rattle.refusals.specs.Refusal.{numbered}
 use Rattle.timing.specs.Signals.{signalsAt}
 use Rattle.timing.specs.Move.{nextPosition}
 use Rattle.timing.specs.declared.Signals.{Signals}
-use Rattle.registers.specs.Store.{storeIndex}
-use Rattle.registers.specs.declared.Block.the-variants.{ColourMap}
+use Rattle.queue.specs.Waiting.{target}
 use Rattle.queue.specs.Queue.{oldest, popped}
-use Rattle.queue.specs.declared.Waiting.{Waiting}
 use Rattle.chip.specs.State.{controlWord, windowsOf, withPosition, withQueue}
 use Rattle.chip.specs.Call.{Chip, callFaults}
 use Rattle.chip.specs.declared.state.State.{State}
@@ -32,16 +29,15 @@ signalsOf state = signalsAt (windowsOf state) (state .at)
 unfoldable pub drains : State → Bool
 drains state = signalsOf state .blank && ltb 0 (state .queue .waiting)
 
--- where a colour write goes
-abbrev pub target : Waiting → ℕ
-target write = storeIndex (record { block = ColourMap; word = write .entry })
+-- the oldest write leaves the queue for its place in the store
+abbrev pub oldestApplied : Chip → Chip
+oldestApplied chip =
+    let write = oldest (chip .0 .queue) in
+    (withQueue (chip .0) (popped (chip .0 .queue)), set (chip .1) (target write) (write .colour))
 
--- if blanked and something waits, the oldest write leaves the queue for its place in the store
+-- so at a dot that is blanked where something waits
 abbrev pub drained : Chip → Chip
-drained chip = (
-  withQueue (chip .0) (cond (drains (chip .0)) (popped (chip .0 .queue)) (chip .0 .queue)),
-  cond (drains (chip .0)) (set (chip .1) (target (oldest (chip .0 .queue))) (oldest (chip .0 .queue) .colour)) (chip .1),
-)
+drained chip = cond (drains (chip .0)) (oldestApplied chip) chip
 
 -- the position moves on, by control word 1
 abbrev pub moved : State → State

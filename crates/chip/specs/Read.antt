@@ -3,11 +3,12 @@ use Prim.Native.Nat.{ℕ, _+_, _*_, _^_}
 use mathlib.Core.Bool.{true, cond}
 use mathlib.Core.List.{List, [], _∷_, _++_}
 use lib.Dec.{eqb}
-use lib.ListN.{length}
+use lib.ListN.{length, getD}
 use Rattle.rules.specs.Rule.{Outcome, ok, refused}
 use Rattle.rules.specs.Faults.{Numbered, Fault, unless}
 use Rattle.refusals.specs.Refusal.{numbered, fault}
 use Rattle.refusals.specs.declared.Refusal.the-variants.{NoRegister}
+use Rattle.timing.specs.declared.Position.{Position}
 use Rattle.registers.specs.Named.{placeOf, named}
 use Rattle.registers.specs.Store.{stored}
 use Rattle.registers.specs.declared.Block.{Block}
@@ -16,7 +17,6 @@ use Rattle.registers.specs.declared.Register.{Register}
 use Rattle.registers.specs.declared.Named.{Named}
 use Rattle.registers.specs.declared.Named.the-variants.{Is, Nothing}
 use Rattle.queue.specs.Queue.{room}
-use Rattle.chip.specs.State.{controlWord}
 use Rattle.chip.specs.Call.{Chip, callFaults}
 use Rattle.chip.specs.declared.state.State.{State}
 use Rattle.chip.specs.declared.read.Answer.{Answer}
@@ -28,11 +28,12 @@ told (Word word) = ok word
 told (Refused refusal) = refused (numbered refusal)
 
 -- word 9 is the room in the queue, word 10 the position, x in 11..0 and y in 27..16; the others are as stored
-unfoldable pub shownOfControl : State → ℕ → ℕ
-shownOfControl state word =
-    cond (eqb word 9) (room (state .queue))
-    (cond (eqb word 10) (state .at .y * 2 ^ 16 + state .at .x)
-    (controlWord state word))
+unfoldable pub shownBy : List ℕ → ℕ → Position → ℕ → ℕ
+shownBy control room at word = cond (eqb word 9) room (cond (eqb word 10) (at .y * 2 ^ 16 + at .x) (getD control word 0))
+
+-- so of a state
+abbrev pub shownOfControl : State → ℕ → ℕ
+shownOfControl state word = shownBy (state .control) (room (state .queue)) (state .at) word
 
 -- a control word is the state's, every other word is the stored one, not a waiting one
 abbrev pub shownIn : Chip → Block → Register → ℕ

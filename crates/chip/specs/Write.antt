@@ -1,8 +1,7 @@
 -- A register write.
 use Prim.Native.Nat.{ℕ}
-use mathlib.Core.Bool.{Bool, true, false, not, _&&_}
+use mathlib.Core.Bool.{Bool, true, not, _&&_}
 use mathlib.Core.List.{List, [], _∷_, _++_}
-use lib.Dec.{leb}
 use lib.ListN.{length, set}
 use Rattle.rules.specs.Rule.{Outcome, ok, refused}
 use Rattle.rules.specs.Faults.{Numbered, Fault, unless}
@@ -11,6 +10,7 @@ use Rattle.refusals.specs.declared.Refusal.the-variants.{NoRegister, ReadOnly, 
 use Rattle.registers.specs.Named.{placeOf, named}
 use Rattle.registers.specs.Kept.{fits}
 use Rattle.registers.specs.Store.{storeIndex}
+use Rattle.registers.specs.Access.{readOnly, waits}
 use Rattle.registers.specs.declared.Block.{Block}
 use Rattle.registers.specs.declared.Block.the-variants.{Control, WindowEntries, ColourMap, GammaMap, CursorGlyph, CursorColours}
 use Rattle.registers.specs.declared.Register.{Register}
@@ -19,7 +19,6 @@ use Rattle.registers.specs.declared.Named.the-variants.{Is, Nothing}
 use Rattle.queue.specs.Queue.{full, pushed}
 use Rattle.chip.specs.State.{withWord, withQueue}
 use Rattle.chip.specs.Call.{Chip, callFaults}
-use Rattle.chip.specs.declared.state.State.{State}
 use Rattle.chip.specs.declared.write.Answer.{Answer}
 use Rattle.chip.specs.declared.write.Answer.the-variants.{Done, Refused}
 
@@ -28,48 +27,22 @@ abbrev pub told : Answer → Outcome Numbered (Unit {0})
 told Done = ok tt
 told (Refused refusal) = refused (numbered refusal)
 
--- control words 9 and 10 can only be read
-abbrev pub readOnlyIn : Block → ℕ → Bool
-readOnlyIn Control word = leb 9 word
-readOnlyIn WindowEntries word = false
-readOnlyIn ColourMap word = false
-readOnlyIn GammaMap word = false
-readOnlyIn CursorGlyph word = false
-readOnlyIn CursorColours word = false
-
--- so of a register
-abbrev pub readOnly : Register → Bool
-readOnly register = readOnlyIn (register .block) (register .word)
-
--- only writes to the colour map wait
-abbrev pub waitsIn : Block → Bool
-waitsIn Control = false
-waitsIn WindowEntries = false
-waitsIn ColourMap = true
-waitsIn GammaMap = false
-waitsIn CursorGlyph = false
-waitsIn CursorColours = false
-
--- so of a register
-abbrev pub waits : Register → Bool
-waits register = waitsIn (register .block)
-
--- a write would wait, and 64 wait
-abbrev pub noRoomFor : State → Register → Bool
-noRoomFor state register = waits register && full (state .queue)
-
--- what a write of a value to what its address names is refused for, at the address: 1, 2, 3, 4
-abbrev pub registerFaults : Chip → Named → ℕ → ℕ → List Fault
-registerFaults chip Nothing place value = fault (NoRegister place) true ∷ []
-registerFaults chip (Is register) place value =
+-- what a write of a value to what its address names is refused for, at the address, by whether the queue is full: 1, 2, 3, 4
+abbrev pub registerFaults : Bool → Named → ℕ → ℕ → List Fault
+registerFaults full Nothing place value = fault (NoRegister place) true ∷ []
+registerFaults full (Is register) place value =
     fault (ReadOnly place) (readOnly register)
     ∷ fault (StrayBits place) (not (fits register value))
-    ∷ fault (QueueFull place) (noRoomFor (chip .0) register)
+    ∷ fault (QueueFull place) (waits register && full)
     ∷ []
+
+-- so of an address
+abbrev pub addressFaults : Bool → ℕ → ℕ → List Fault
+addressFaults full address value = registerFaults full (named address) (placeOf address) value
 
 -- 11, 5, 1, 2, 3, 4
 abbrev pub writeFaults : Chip → ℕ → ℕ → List Fault
-writeFaults chip address value = callFaults (chip .0) (length (chip .1)) ++ registerFaults chip (named address) (placeOf address) value
+writeFaults chip address value = callFaults (chip .0) (length (chip .1)) ++ addressFaults (full (chip .0 .queue)) address value
 
 -- a control word is the state's, a colour write joins the queue, every other word is the store's
 abbrev pub putIn : Chip → Block → Register → ℕ → Chip

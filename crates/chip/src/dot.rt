@@ -6,14 +6,10 @@ ghost use lib.Dec.{ltb};
 ghost use lib.ListN.{length};
 ghost use Rattle.registers.specs.Store.{storeLength};
 ghost use Rattle.chip.specs.State.{goodState};
-ghost use Rattle.chip.specs.Dot.{told, signalsOf, target, moved, afterDot, dotted};
-ghost use Rattle.chip.specs.Inner.{applied};
+ghost use Rattle.chip.specs.Dot.{told, signalsOf, oldestApplied, moved, afterDot, dotted};
 use crate::state::State;
-use queue::Waiting;
 use refusals::Fit;
 use refusals::Refusal;
-use registers::Block;
-use registers::Register;
 use timing::Signals;
 
 // What a dot answers.
@@ -26,17 +22,6 @@ pub enum Answer {
 pub struct Dotted {
     pub state: State,
     pub answer: Answer,
-}
-
-// Where a colour write goes.
-fn target(write: Waiting) -> usize
-    ensures { λ r. ⌜ r ≡ target write ⌝ }
-{
-    let register = Register {
-        block: Block::ColourMap,
-        word: write.entry,
-    };
-    register.store_index()
 }
 
 // Whether a dot applies a write: it is blanked and something waits.
@@ -67,11 +52,11 @@ impl State {
     // The oldest write goes from the queue into its place in the store.
     fn applied(mut self, store: &mut [u32]) -> Self
         requires { ⌜ (goodState self ≡ true) × (0 < self .queue .waiting) × (length (now store) ≡ storeLength) ⌝ }
-        ensures { λ r. ⌜ (r, now (store .exit)) ≡ applied (self, now (store .entry)) ⌝ }
+        ensures { λ r. ⌜ (r, now (store .exit)) ≡ oldestApplied (self, now (store .entry)) ⌝ }
     {
         let queue = self.queue;
         let oldest = queue.oldest();
-        let index = target(oldest);
+        let index = oldest.target();
         store[index] = oldest.colour;
         self.queue = queue.popped();
         self

@@ -1,7 +1,9 @@
 // The state: control words, position and queue, passed by value.
 ghost use mathlib.Core.Path.{_≡_};
+ghost use Rattle.rules.specs.Checked.{verdict};
+ghost use Rattle.refusals.specs.Refusal.{fitTold};
 ghost use Rattle.chip.specs.State.{fresh, goodWords, goodState, windowsOf};
-ghost use Rattle.chip.specs.Inner.{fit};
+ghost use Rattle.chip.specs.Call.{callFaults};
 use queue::Queue;
 use refusals::Fit;
 use refusals::Refusal;
@@ -73,7 +75,7 @@ impl State {
 
     // Whether a call may go on with this state and a store of so many words.
     pub(crate) fn fit(self, length: usize) -> Fit
-        ensures { λ r. ⌜ r ≡ fit self length ⌝ }
+        ensures { λ r. ⌜ fitTold r ≡ verdict (callFaults self length) ⌝ }
     {
         if !self.good() {
             return Fit::Refused(Refusal::BadState);

@@ -4,11 +4,13 @@ ghost use mathlib.Core.Path.{_≡_};
 ghost use mathlib.Core.Bool.{false};
 ghost use lib.ListN.{length};
 ghost use Rattle.registers.specs.Blocks.{count};
+ghost use Rattle.registers.specs.Named.{named};
 ghost use Rattle.registers.specs.Store.{storeLength};
+ghost use Rattle.registers.specs.Access.{readOnly};
 ghost use Rattle.queue.specs.Queue.{pushed};
 ghost use Rattle.chip.specs.State.{withWord, withQueue};
-ghost use Rattle.chip.specs.Write.{readOnly, waits, put, told, written};
-ghost use Rattle.chip.specs.Inner.{judged};
+ghost use Rattle.chip.specs.Write.{put, told, written};
+ghost use Rattle.chip.specs.Inner.{writeTest, Judged};
 use crate::state::State;
 use queue::Waiting;
 use refusals::Fit;
@@ -35,31 +37,9 @@ enum Verdict {
     Refused(Refusal),
 }
 
-// Whether a register can only be read: control words 9 and 10.
-fn read_only(register: Register) -> bool
-    ensures { λ r. ⌜ r ≡ readOnly register ⌝ }
-{
-    let block = register.block;
-    match block {
-        Block::Control => 9 <= register.word,
-        _ => false,
-    }
-}
-
-// Whether a write to a register waits: those to the colour map do.
-fn waits(register: Register) -> bool
-    ensures { λ r. ⌜ r ≡ waits register ⌝ }
-{
-    let block = register.block;
-    match block {
-        Block::ColourMap => true,
-        _ => false,
-    }
-}
-
 // What becomes of a write, by whether the call may go on, by its address and value and by whether the queue is full.
 fn judged(fit: Fit, address: u32, value: u32, full: bool) -> Verdict
-    ensures { λ r. ⌜ r ≡ judged fit address value full ⌝ }
+    ensures { λ r. ⌜ Judged (writeTest fit full address value) (named address) r ⌝ }
 {
     if let Fit::Refused(refusal) = fit {
         return Verdict::Refused(refusal);
@@ -69,14 +49,14 @@ fn judged(fit: Fit, address: u32, value: u32, full: bool) -> Verdict
     let Named::Is(register) = named else {
         return Verdict::Refused(Refusal::NoRegister(place));
     };
-    if read_only(register) {
+    if register.read_only() {
         return Verdict::Refused(Refusal::ReadOnly(place));
     }
     if !register.fits(value) {
         return Verdict::Refused(Refusal::StrayBits(place));
     }
-    if full {
-        if waits(register) {
+    if register.waits() {
+        if full {
             return Verdict::Refused(Refusal::QueueFull(place));
         }
     }

@@ -2,11 +2,9 @@
 use Prim.Native.Nat.{ℕ, zero, suc}
 use mathlib.Core.Path.{_≡_, refl, sym, subst}
 use mathlib.Core.List.{List, [], _∷_, _++_}
-use lib.ListN.{length, replicate}
-use Rattle.rules.specs.Rule.{Outcome, ok}
+use lib.ListN.{replicate}
+use Rattle.rules.specs.Rule.{Outcome, ok, refused}
 use Rattle.rules.specs.Faults.{Numbered}
-use Rattle.refusals.specs.declared.Fit.{Fit}
-use Rattle.refusals.specs.declared.Fit.the-variants.{Yes, Refused}
 use Rattle.timing.specs.declared.Signals.{Signals}
 use Rattle.registers.specs.declared.Register.{Register}
 use Rattle.registers.specs.declared.Named.the-variants.{Is}
@@ -16,9 +14,8 @@ use Rattle.chip.specs.Call.{Chip}
 use Rattle.chip.specs.Write.{put, written}
 use Rattle.chip.specs.Dot.{signalsOf, afterDot, dotted}
 use Rattle.chip.specs.Dots.{ran}
-use Rattle.chip.specs.Inner.{fit}
 use Rattle.chip.proofs.Good.{put-whole, dot-whole, dots-whole}
-use Rattle.chip.proofs.Fit.{GoesOn}
+use Rattle.chip.proofs.Fit.{tested, GoesOn}
 use Rattle.chip.proofs.Runs.{dot-unfit, dot-done, dots-unfit, dots-done}
 use Rattle.history.specs.Calls.{Call, write, read, dot, dots, line, after, end}
 use Rattle.history.specs.Ledger.{colourWrite, accepts, accepted, blankedBy, blankedDots, blanks, blanked}
@@ -35,11 +32,11 @@ write-whole chip address value whole (into register p) = rw (p .left) (put-whole
 
 -- a dot leaves the arrays their sizes, refused or not
 dotted-whole : (chip : Chip) → Whole (chip .0) → Whole (dotted chip .0 .0)
-dotted-whole chip whole = by (fit (chip .0) (length (chip .1))) refl
+dotted-whole chip whole = by (tested chip) refl
   where
-    by : (test : Fit) → fit (chip .0) (length (chip .1)) ≡ test → Whole (dotted chip .0 .0)
-    by Yes on = rw (dot-done chip on) (dot-whole chip whole)
-    by (Refused refusal) off = rw (dot-unfit chip refusal off) whole
+    by : (test : Outcome Numbered (Unit {0})) → tested chip ≡ test → Whole (dotted chip .0 .0)
+    by (ok _) on = rw (dot-done chip on) (dot-whole chip whole)
+    by (refused refusal) off = rw (dot-unfit chip refusal off) whole
 
 -- so does every call
 pub call-whole : (chip : Chip) (call : Call) → Whole (chip .0) → Whole (after chip call .0)
@@ -47,11 +44,11 @@ unfolding after
 call-whole chip (write address value) whole = write-whole chip address value whole (wrote chip address value)
 call-whole chip (read address) whole = subst (λ (left : Chip). Whole (left .0)) (sym (read-same chip address)) whole
 call-whole chip dot whole = dotted-whole chip whole
-call-whole chip (dots count) whole = by (fit (chip .0) (length (chip .1))) refl
+call-whole chip (dots count) whole = by (tested chip) refl
   where
-    by : (test : Fit) → fit (chip .0) (length (chip .1)) ≡ test → Whole (ran chip count .0 .0)
-    by Yes on = rw (dots-done chip count on) (dots-whole count chip whole)
-    by (Refused refusal) off = rw (dots-unfit chip count refusal off) whole
+    by : (test : Outcome Numbered (Unit {0})) → tested chip ≡ test → Whole (ran chip count .0 .0)
+    by (ok _) on = rw (dots-done chip count on) (dots-whole count chip whole)
+    by (refused refusal) off = rw (dots-unfit chip count refusal off) whole
 call-whole chip line whole = whole
 
 -- so does every sequence
@@ -84,11 +81,11 @@ module _ (Holds : Chip → List (List Waiting) → List Waiting → Chip → Typ
 
   -- it holds of a dot
   law-dot : (chip : Chip) → Whole (chip .0) → Dotted chip (dotted chip)
-  law-dot chip whole = by (fit (chip .0) (length (chip .1))) refl
+  law-dot chip whole = by (tested chip) refl
     where
-      by : (test : Fit) → fit (chip .0) (length (chip .1)) ≡ test → Dotted chip (dotted chip)
-      by Yes on = subst (Dotted chip) (sym (dot-done chip on)) (law .step chip whole on)
-      by (Refused refusal) off = subst (Dotted chip) (sym (dot-unfit chip refusal off)) (law .none chip)
+      by : (test : Outcome Numbered (Unit {0})) → tested chip ≡ test → Dotted chip (dotted chip)
+      by (ok _) on = subst (Dotted chip) (sym (dot-done chip on)) (law .step chip whole on)
+      by (refused refusal) off = subst (Dotted chip) (sym (dot-unfit chip refusal off)) (law .none chip)
 
   -- it holds of so many dots
   law-dots : (count : ℕ) (chip : Chip) → Whole (chip .0) → Holds chip (blankedDots count chip) [] (end chip (replicate count dot))

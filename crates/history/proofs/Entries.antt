@@ -16,12 +16,12 @@ use Rattle.registers.specs.declared.Block.{Block}
 use Rattle.registers.specs.declared.Block.the-variants.{Control, WindowEntries, ColourMap, GammaMap, CursorGlyph, CursorColours}
 use Rattle.registers.proofs.Store.{map-entry-apart}
 use Rattle.queue.specs.Queue.{oldest}
+use Rattle.queue.specs.Waiting.{target}
 use Rattle.queue.specs.declared.Waiting.{Waiting}
-use Rattle.queue.specs.declared.Queue.{Queue}
 use Rattle.chip.specs.State.{fresh, Whole}
 use Rattle.chip.specs.Call.{Chip}
 use Rattle.chip.specs.Write.{putIn}
-use Rattle.chip.specs.Dot.{signalsOf, drains, target, afterDot}
+use Rattle.chip.specs.Dot.{signalsOf, drains, oldestApplied, afterDot}
 use Rattle.chip.proofs.Good.{fresh-whole}
 use Rattle.chip.proofs.Fit.{fit-says}
 use Rattle.history.specs.Calls.{Call, end}
@@ -82,16 +82,15 @@ module _ (entry : ℕ) where
             getD-set-other store (target write) (storeStart ColourMap + entry) (write .colour) 0 (λ same. eqb-false (write .entry) entry e (omega arith))
 
     -- a blanked dot applies the oldest write, if something waits
-    step-holds : (store : List ℕ) (queue : Queue) (blank : Bool) → length store ≡ storeLength
-        → held-in (cond (blank && ltb 0 (queue .waiting)) (set store (target (oldest queue)) (oldest queue .colour)) store)
-        ≡ latest entry (joined (cond blank (front queue ∷ []) [])) (held-in store)
-    step-holds store queue false size = refl
-    step-holds store queue true size = by (ltb 0 (queue .waiting))
+    step-holds : (chip : Chip) (blank : Bool) → length (chip .1) ≡ storeLength
+        → let queue = chip .0 .queue in
+        held-in (cond (blank && ltb 0 (queue .waiting)) (oldestApplied chip) chip .1) ≡ latest entry (joined (cond blank (front queue ∷ []) [])) (held-in (chip .1))
+    step-holds chip false size = refl
+    step-holds chip true size = by (ltb 0 (chip .0 .queue .waiting))
       where
         by : (some : Bool)
-            → held-in (cond some (set store (target (oldest queue)) (oldest queue .colour)) store)
-            ≡ latest entry (joined (cond some (oldest queue ∷ []) [] ∷ [])) (held-in store)
-        by true = write-holds store (oldest queue) size
+            → held-in (cond some (oldestApplied chip) chip .1) ≡ latest entry (joined (cond some (oldest (chip .0 .queue) ∷ []) [] ∷ [])) (held-in (chip .1))
+        by true = write-holds (chip .1) (oldest (chip .0 .queue)) size
         by false = refl
 
     -- the entry after, by what was applied
@@ -107,7 +106,7 @@ module _ (entry : ℕ) where
           then = λ first middle last dark dark′ took took′ p q.
               q ∙ ap (latest entry (joined dark′)) p ∙ sym (rw (joined-then dark dark′) (latest-then (joined dark) (joined dark′) (held-in (first .1))));
           puts = λ chip address value register whole p. put-holds chip (register .block) (register .word) value (p .here);
-          step = λ chip whole on. step-holds (chip .1) (chip .0 .queue) (signalsOf (chip .0) .blank) (fit-says (chip .0) (length (chip .1)) on .1);
+          step = λ chip whole on. step-holds chip (signalsOf (chip .0) .blank) (fit-says (chip .0) (length (chip .1)) on .1);
         }
 
     -- after any calls a map entry holds the colour of the last write applied to it, or what it held before

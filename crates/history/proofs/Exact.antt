@@ -6,12 +6,12 @@ use mathlib.Core.List.{List, [], _∷_, _++_, append-nil}
 use native.Mathlib.Omega.{arith}
 use lib.ListN.{length, getD}
 use Rattle.queue.specs.Queue.{zeroSlot, waitingIn}
+use Rattle.queue.specs.Waiting.{target}
 use Rattle.queue.specs.declared.Waiting.{Waiting}
 use Rattle.queue.proofs.Rule as rule
 use Rattle.queue.proofs.Rule.{good-each, write-says}
 use Rattle.chip.specs.State.{fresh, goodState, Whole}
 use Rattle.chip.specs.Call.{Chip}
-use Rattle.chip.specs.Dot.{target}
 use Rattle.chip.proofs.Good.{good-says, fresh-whole, fresh-good}
 use Rattle.history.specs.Calls.{Call, write, after, end}
 use Rattle.history.specs.Ledger.{accepts, accepted, blanks, blanked}

@@ -9,18 +9,19 @@ use lib.Dec.{ltb}
 use lib.ListN.{length, length-append}
 use Rattle.rules.specs.Rule.{ok}
 use Rattle.timing.specs.declared.Signals.{Signals}
+use Rattle.registers.specs.Access.{waitsIn}
 use Rattle.registers.specs.declared.Block.{Block}
 use Rattle.registers.specs.declared.Block.the-variants.{Control, WindowEntries, ColourMap, GammaMap, CursorGlyph, CursorColours}
 use Rattle.registers.specs.declared.Named.the-variants.{Is}
-use Rattle.queue.specs.Queue.{waitingIn, full, oldest, popped, Sized}
+use Rattle.queue.specs.Queue.{waitingIn, full, oldest, Sized}
 use Rattle.queue.specs.declared.Waiting.{Waiting}
 use Rattle.queue.specs.declared.Queue.{Queue}
 use Rattle.queue.proofs.Order.{waiting-pushed, waiting-popped, waiting-front, length-waiting}
 use Rattle.queue.proofs.Rule as rule
 use Rattle.chip.specs.State.{fresh, goodState, Whole}
 use Rattle.chip.specs.Call.{Chip}
-use Rattle.chip.specs.Write.{waitsIn, putIn}
-use Rattle.chip.specs.Dot.{signalsOf, drains, afterDot}
+use Rattle.chip.specs.Write.{putIn}
+use Rattle.chip.specs.Dot.{signalsOf, drains, oldestApplied, afterDot}
 use Rattle.chip.proofs.Good.{good-says, not-full, fresh-whole, fresh-good}
 use Rattle.chip.proofs.Fit.{fit-says}
 use Rattle.history.specs.Calls.{Call, end}
@@ -45,16 +46,20 @@ put-acts chip CursorGlyph word value sized free = still
 put-acts chip CursorColours word value sized free = still
 
 -- a blanked dot takes the oldest write, if something waits; any other leaves the queue
-step-acts : (queue : Queue) → Sized queue → queue .waiting ≤ 64 → (blank : Bool)
-    → Acts (waitingIn queue) (cond blank (front queue ∷ []) []) [] (waitingIn (cond (blank && ltb 0 (queue .waiting)) (popped queue) queue))
-step-acts queue sized few false = still
-step-acts queue sized few true = by (ltb 0 (queue .waiting)) refl
+step-acts : (chip : Chip) → Sized (chip .0 .queue) → chip .0 .queue .waiting ≤ 64 → (blank : Bool)
+    → let queue = chip .0 .queue in
+    Acts (waitingIn queue) (cond blank (front queue ∷ []) []) [] (waitingIn (cond (blank && ltb 0 (queue .waiting)) (oldestApplied chip) chip .0 .queue))
+step-acts chip sized few false = still
+step-acts chip sized few true = by (ltb 0 (chip .0 .queue .waiting)) refl
   where
-    by : (some : Bool) → ltb 0 (queue .waiting) ≡ some
-        → Acts (waitingIn queue) (cond some (oldest queue ∷ []) [] ∷ []) [] (waitingIn (cond some (popped queue) queue))
-    by true e = rw (waiting-popped queue sized few, waiting-front queue sized (ltb-true 0 (queue .waiting) e)) (leaves (oldest queue) still)
+    by : (some : Bool) → ltb 0 (chip .0 .queue .waiting) ≡ some
+        → let queue = chip .0 .queue in
+        Acts (waitingIn queue) (cond some (oldest queue ∷ []) [] ∷ []) [] (waitingIn (cond some (oldestApplied chip) chip .0 .queue))
+    by true e =
+        let queue = chip .0 .queue in
+        rw (waiting-popped queue sized few, waiting-front queue sized (ltb-true 0 (queue .waiting) e)) (leaves (oldest queue) still)
     by false e =
-        let none : queue .waiting ≡ 0 = omega (arith, ltb-false 0 (queue .waiting) e) in
+        let none : chip .0 .queue .waiting ≡ 0 = omega (arith, ltb-false 0 (chip .0 .queue .waiting) e) in
         rw none (finds-none still)
 
 -- one element or none
@@ -81,7 +86,7 @@ queued =
       then = λ first middle last dark dark′ took took′ p q. acts-then p q;
       puts = λ chip address value register whole p. put-acts chip (register .block) (register .word) value (whole .1) (p .free);
       step = λ chip whole on.
-          step-acts (chip .0 .queue) (whole .1) (rule.good-says (chip .0 .queue) (good-says (chip .0) (fit-says (chip .0) (length (chip .1)) on .0) .3) .0) (signalsOf (chip .0) .blank);
+          step-acts chip (whole .1) (rule.good-says (chip .0 .queue) (good-says (chip .0) (fit-says (chip .0) (length (chip .1)) on .0) .3) .0) (signalsOf (chip .0) .blank);
     }
 
 module _ (chip : Chip) (calls : List Call) (whole : Whole (chip .0)) where

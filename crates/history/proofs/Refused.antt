@@ -11,9 +11,10 @@ use Rattle.rules.proofs.Faults.{first-holds, refused-first}
 use Rattle.registers.specs.Named.{placeOf, named}
 use Rattle.registers.specs.declared.Named.{Named}
 use Rattle.registers.specs.declared.Named.the-variants.{Is, Nothing}
+use Rattle.queue.specs.Queue.{full}
 use Rattle.chip.specs.State.{goodState}
 use Rattle.chip.specs.Call.{Chip, callFaults}
-use Rattle.chip.specs.Write.{registerFaults, writeFaults, putNamed, written}
+use Rattle.chip.specs.Write.{registerFaults, addressFaults, writeFaults, putNamed, written}
 use Rattle.chip.specs.Read.{shownNamed, nameFaults, readFaults, readBack}
 use Rattle.chip.specs.Dot.{signalsOf, afterDot, dotted}
 use Rattle.chip.specs.Dots.{afterDots, lastReport, ran}
@@ -89,7 +90,7 @@ module _ (chip : Chip) (good : goodState (chip .0) ≡ true) where
   avoids-11 others avoids = (λ holds e. false≢true (rw good at holds), (λ holds e. omega arith, avoids))
 
   -- the faults of a write by what its address names
-  write-avoids : (names : Named) (place value : ℕ) → Avoids 11 (registerFaults chip names place value)
+  write-avoids : (names : Named) (place value : ℕ) → Avoids 11 (registerFaults (full (chip .0 .queue)) names place value)
   write-avoids Nothing place value = (λ holds e. omega arith, tt)
   write-avoids (Is register) place value = (λ holds e. omega arith, (λ holds e. omega arith, (λ holds e. omega arith, tt)))
 
@@ -103,7 +104,7 @@ module _ (chip : Chip) (good : goodState (chip .0) ≡ true) where
   unfolding written readBack dotted ran
   good-not-11 (write address value) refusal e =
       avoids-all chip (putNamed chip (named address) value, tt) (writeFaults chip address value) 11
-      (avoids-11 (registerFaults chip (named address) (placeOf address) value) (write-avoids (named address) (placeOf address) value))
+      (avoids-11 (addressFaults (full (chip .0 .queue)) address value) (write-avoids (named address) (placeOf address) value))
       refusal e
   good-not-11 (read address) refusal e =
       avoids-all chip (chip, shownNamed chip (named address)) (readFaults chip address) 11

@@ -11,13 +11,14 @@ use Rattle.rules.proofs.Faults.{none-holds, accepted-clear, refused-leaves}
 use Rattle.registers.specs.Blocks.{count}
 use Rattle.registers.specs.Named.{placeOf, named}
 use Rattle.registers.specs.Kept.{fits}
+use Rattle.registers.specs.Access.{waits}
 use Rattle.registers.specs.declared.Register.{Register}
 use Rattle.registers.specs.declared.Named.{Named}
 use Rattle.registers.specs.declared.Named.the-variants.{Is, Nothing}
 use Rattle.registers.proofs.Naming.{named-word}
 use Rattle.queue.specs.Queue.{full}
 use Rattle.chip.specs.Call.{Chip}
-use Rattle.chip.specs.Write.{waits, registerFaults, writeFaults, put, putNamed, written}
+use Rattle.chip.specs.Write.{registerFaults, writeFaults, put, putNamed, written}
 use Rattle.chip.proofs.Fit.{GoesOn, says-fit}
 use Rattle.history.specs.Calls.{write}
 use Rattle.history.specs.Ledger.{colourWrite, acceptedBy, accepts}
@@ -41,10 +42,10 @@ module _ (chip : Chip) (address value : ℕ) where
   wrote-on : Clear (writeFaults chip address value) → (names : Named) → named address ≡ names → Wrote chip address value
   unfolding written accepts
   wrote-on clear Nothing e =
-      let wrong : Clear (registerFaults chip Nothing (placeOf address) value) = rw e at (clear .1 .1) in
+      let wrong : Clear (registerFaults (full (chip .0 .queue)) Nothing (placeOf address) value) = rw e at (clear .1 .1) in
       absurd (true≢false (wrong .0))
   wrote-on clear (Is register) e =
-      let own : Clear (registerFaults chip (Is register) (placeOf address) value) = rw e at (clear .1 .1) in
+      let own : Clear (registerFaults (full (chip .0 .queue)) (Is register) (placeOf address) value) = rw e at (clear .1 .1) in
       let does = none-holds chip (putNamed chip (named address) value, tt) (writeFaults chip address value) clear in
       into register
       record {

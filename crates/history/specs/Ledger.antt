@@ -8,13 +8,14 @@ use Rattle.rules.specs.Lists.{joined}
 use Rattle.rules.specs.Faults.{Numbered}
 use Rattle.timing.specs.declared.Signals.{Signals}
 use Rattle.registers.specs.Named.{named}
+use Rattle.registers.specs.Access.{waits}
 use Rattle.registers.specs.declared.Named.{Named}
 use Rattle.registers.specs.declared.Named.the-variants.{Is, Nothing}
 use Rattle.queue.specs.Queue.{oldest}
 use Rattle.queue.specs.declared.Waiting.{Waiting}
 use Rattle.queue.specs.declared.Queue.{Queue}
 use Rattle.chip.specs.Call.{Chip}
-use Rattle.chip.specs.Write.{waits, written}
+use Rattle.chip.specs.Write.{written}
 use Rattle.chip.specs.Dot.{dotted}
 use Rattle.history.specs.Calls.{Call, write, read, dot, dots, line, after}
 

@@ -11,7 +11,7 @@ use lib.Seq.{drop-cons, getD-take}
 use Rattle.registers.specs.Blocks.{count}
 use Rattle.registers.specs.Kept.{fits}
 use Rattle.registers.specs.declared.Block.the-variants.{ColourMap}
-use Rattle.queue.specs.Waiting.{goodWrite}
+use Rattle.queue.specs.Waiting.{registerOf, goodWrite}
 use Rattle.queue.specs.Queue.{zeroSlot, waitingIn, oldest, pushed, popped, Sized}
 use Rattle.queue.specs.Good.{allGood, goodQueue}
 use Rattle.queue.specs.declared.Waiting.{Waiting}
@@ -61,12 +61,12 @@ none-good queue none = says-good queue (omega arith) (ap (λ (count : ℕ). allG
 
 -- a good write goes to a colour entry, with no bits but those that it keeps
 pub write-says : (write : Waiting) → goodWrite write ≡ true
-    → (write .entry < count ColourMap) × (fits (record { block = ColourMap; word = write .entry }) (write .colour) ≡ true)
+    → (write .entry < count ColourMap) × (fits (registerOf write) (write .colour) ≡ true)
 unfolding goodWrite
 write-says write good = let e = both _ _ good in (ltb-true _ _ (e .0), e .1)
 
 -- and that is all that it asks
-pub says-write : (write : Waiting) → write .entry < count ColourMap → fits (record { block = ColourMap; word = write .entry }) (write .colour) ≡ true → goodWrite write ≡ true
+pub says-write : (write : Waiting) → write .entry < count ColourMap → fits (registerOf write) (write .colour) ≡ true → goodWrite write ≡ true
 unfolding goodWrite
 says-write write here fine = rw (lt-ltb _ _ here) fine
 

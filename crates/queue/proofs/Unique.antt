@@ -2,6 +2,7 @@
 use Rattle.rules.specs.Unique.{OneAnswer}
 use Rattle.rules.proofs.Unique.{by-equation}
 use Rattle.queue.proofs.Waiting.good.Reads as good-write
+use Rattle.queue.proofs.Waiting.target.Reads as target
 use Rattle.queue.proofs.Queue.new.Reads as new
 use Rattle.queue.proofs.Queue.room.Reads as room
 use Rattle.queue.proofs.Queue.full.Reads as full
@@ -10,8 +11,11 @@ use Rattle.queue.proofs.Queue.pushed.Reads as pushed
 use Rattle.queue.proofs.Queue.popped.Reads as popped
 use Rattle.queue.proofs.Queue.good.Reads as good
 
-pub good-write-unique : OneAnswer good-write.Post
-good-write-unique = by-equation _ _
+pub waiting-good-unique : OneAnswer good-write.Post
+waiting-good-unique = by-equation _ _
+
+pub target-unique : OneAnswer target.Post
+target-unique = by-equation _ _
 
 pub new-unique : OneAnswer new.Post
 new-unique = by-equation _ _
@@ -31,5 +35,5 @@ pushed-unique = by-equation _ _
 pub popped-unique : OneAnswer popped.Post
 popped-unique = by-equation _ _
 
-pub good-unique : OneAnswer good.Post
-good-unique = by-equation _ _
+pub queue-good-unique : OneAnswer good.Post
+queue-good-unique = by-equation _ _

@@ -1,11 +1,22 @@
--- When a colour write may wait.
+-- A colour write that waits: when it may, and where it goes.
+use Prim.Native.Nat.{ℕ}
 use mathlib.Core.Bool.{Bool, _&&_}
 use lib.Dec.{ltb}
 use Rattle.registers.specs.Blocks.{count}
 use Rattle.registers.specs.Kept.{fits}
+use Rattle.registers.specs.Store.{storeIndex}
 use Rattle.registers.specs.declared.Block.the-variants.{ColourMap}
+use Rattle.registers.specs.declared.Register.{Register}
 use Rattle.queue.specs.declared.Waiting.{Waiting}
 
--- a write to a colour entry, with no bits but those that the entry keeps
+-- the register that it is for: a colour entry
+abbrev pub registerOf : Waiting → Register
+registerOf write = record { block = ColourMap; word = write .entry }
+
+-- there is such an entry, and the write has no bits but those that the entry keeps
 unfoldable pub goodWrite : Waiting → Bool
-goodWrite write = ltb (write .entry) (count ColourMap) && fits (record { block = ColourMap; word = write .entry }) (write .colour)
+goodWrite write = ltb (write .entry) (count ColourMap) && fits (registerOf write) (write .colour)
+
+-- where it goes in the store
+abbrev pub target : Waiting → ℕ
+target write = storeIndex (registerOf write)

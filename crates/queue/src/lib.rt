@@ -1,9 +1,11 @@
 // The queue of colour writes: up to 64 that wait, the oldest first.
 ghost use Prim.Native.Nat.{_-_};
 ghost use mathlib.Core.Path.{_≡_};
-ghost use Rattle.queue.specs.Waiting.{goodWrite};
+ghost use Rattle.queue.specs.Waiting.{goodWrite, target};
 ghost use Rattle.queue.specs.Queue.{empty, room, full, oldest, pushed, popped};
 ghost use Rattle.queue.specs.Good.{goodQueue};
+use registers::Block;
+use registers::Register;
 
 // A colour write that waits.
 #[repr(C)]
@@ -36,6 +38,17 @@ impl Waiting {
         } else {
             false
         }
+    }
+
+    // Where it goes in the store.
+    pub fn target(self) -> usize
+        ensures { λ r. ⌜ r ≡ target self ⌝ }
+    {
+        let register = Register {
+            block: Block::ColourMap,
+            word: self.entry,
+        };
+        register.store_index()
     }
 }
 

@@ -9,6 +9,8 @@ use Rattle.registers.proofs.Register.at.Reads as at
 use Rattle.registers.proofs.Register.kept.Reads as kept
 use Rattle.registers.proofs.Register.fits.Reads as fits
 use Rattle.registers.proofs.Register.store_index.Reads as store-index
+use Rattle.registers.proofs.Register.read_only.Reads as read-only
+use Rattle.registers.proofs.Register.waits.Reads as waits
 
 pub start-unique : OneAnswer start.Post
 start-unique = by-equation _ _
@@ -33,3 +35,9 @@ fits-unique = by-equation _ _
 
 pub store-index-unique : OneAnswer store-index.Post
 store-index-unique = by-equation _ _
+
+pub read-only-unique : OneAnswer read-only.Post
+read-only-unique = by-equation _ _
+
+pub waits-unique : OneAnswer waits.Post
+waits-unique = by-equation _ _

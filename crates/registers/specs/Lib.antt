@@ -2,3 +2,4 @@ pub mod Blocks
 pub mod Named
 pub mod Kept
 pub mod Store
+pub mod Access

@@ -1,4 +1,4 @@
-// The register map: what an address names, which bits a register keeps, and where it stands in the store.
+// The register map: what an address names, which bits a register keeps, where it stands in the store, and whether it can be written and its writes wait.
 ghost use Prim.Native.Nat.{_≤_};
 ghost use mathlib.Core.Path.{_≡_};
 ghost use mathlib.Core.List.{[], _∷_};
@@ -6,6 +6,7 @@ ghost use Rattle.registers.specs.Blocks.{blocks, start, count};
 ghost use Rattle.registers.specs.Named.{placeOf, among, named};
 ghost use Rattle.registers.specs.Kept.{keptOfControl, keptOf, fits};
 ghost use Rattle.registers.specs.Store.{storeStart, storeIndex};
+ghost use Rattle.registers.specs.Access.{readOnly, waits};
 
 // The blocks of registers, in the order of the table.
 pub enum Block {
@@ -160,5 +161,31 @@ impl Register {
     {
         let block = self.block;
         block.store_start() + (self.word as usize)
+    }
+
+    // Whether it can only be read: control words 9 and 10.
+    pub fn read_only(self) -> bool
+        ensures { λ r. ⌜ r ≡ readOnly self ⌝ }
+    {
+        let block = self.block;
+        match block {
+            Block::Control => 9 <= self.word,
+            _ => false,
+        }
+    }
+
+    // Whether a write to it waits: those to the colour map do.
+    pub fn waits(self) -> bool
+        ensures { λ r. ⌜ r ≡ waits self ⌝ }
+    {
+        let block = self.block;
+        match block {
+            Block::Control => false,
+            Block::WindowEntries => false,
+            Block::ColourMap => true,
+            Block::GammaMap => false,
+            Block::CursorGlyph => false,
+            Block::CursorColours => false,
+        }
     }
 }

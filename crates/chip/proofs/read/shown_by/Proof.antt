@@ -3,7 +3,7 @@ use mathlib.Core.Path.{refl}
 use native.Mathlib.Omega.{arith}
 use borrow.Author.Needs.{needs}
 use borrow.Author.Tests.{eq-eqb, ne-eqb}
-use Rattle.chip.specs.Inner.{shownBy}
+use Rattle.chip.specs.Read.{shownBy}
 use Rattle.chip.proofs.read.shown_by.Statement.{statement}
 use Rattle.chip.proofs.read.shown_by.Tie as tie
 

@@ -1,14 +1,13 @@
 -- `chip::write::judged` meets its contract: each return is a case of the order 11, 5, 1, 2, 3, 4. Assumes nothing.
-use mathlib.Core.Path.{_≡_, ap, sym, _∙_}
-use mathlib.Core.Bool.{Bool, true, false, _&&_}
+use mathlib.Core.Path.{_≡_, refl, sym, _∙_}
+use mathlib.Core.Bool.{true, false}
 use borrow.Author.Needs.{needs}
 use borrow.Author.Tests.{not-true, not-false}
 use Rattle.refusals.specs.declared.Fit.the-variants.{Yes}
 use Rattle.registers.specs.Named.{named}
 use Rattle.registers.specs.Kept.{fits}
+use Rattle.registers.specs.Access.{readOnly}
 use Rattle.registers.specs.declared.Named.the-variants.{Is}
-use Rattle.chip.specs.Write.{readOnly, waits}
-use Rattle.chip.proofs.Writes.{judged-unfit, judged-nowhere, judged-read-only, judged-stray, judged-full, judged-to}
 use Rattle.chip.proofs.write.judged.Statement.{statement}
 use Rattle.chip.proofs.write.judged.Tie as tie
 
@@ -33,9 +32,7 @@ enum-known-fit : tie.Need-enum-known-fit
 enum-known-fit c = search needs
 
 returns : tie.Need-returns
-returns c =
-    let given = c .before .before .before .args in
-    judged-unfit (given .fit) (given .address) (given .value) (given .full) _ (c .before .fit .given .1)
+returns c = rw (c .before .fit .given .1) refl
 
 enum-told : tie.Need-enum-told
 enum-told c = search needs
@@ -56,8 +53,7 @@ returns-2 : tie.Need-returns-2
 returns-2 c =
     let named-at = c .before .before in
     let placed = named-at .before in
-    let given = placed .before .before .before .args in
-    judged-nowhere (given .fit) (given .address) (given .value) (given .full) (going (placed .before)) _ (placed .place .ensures) (sym (named-at .at .ensures) ∙ c .enum-told2 .given .1)
+    rw (going (placed .before), placed .place .ensures, sym (named-at .at .ensures) ∙ c .enum-told2 .given .1) refl
 
 read-only-requires : tie.Need-read-only-requires
 read-only-requires c κs = search needs
@@ -66,9 +62,7 @@ returns-3 : tie.Need-returns-3
 returns-3 c =
     let register-at = c .before .before in
     let placed = register-at .before .before .before .before in
-    let given = placed .before .before .before .args in
-    judged-read-only (given .fit) (given .address) (given .value) (given .full) (going (placed .before)) _ (placed .place .ensures) _ (there register-at)
-    (sym (c .before .read-only .ensures) ∙ c .if1 .taken)
+    rw (going (placed .before), placed .place .ensures, there register-at, sym (c .before .read-only .ensures) ∙ c .if1 .taken) refl
 
 fits-requires : tie.Need-fits-requires
 fits-requires c κs = search needs
@@ -78,44 +72,38 @@ returns-4 c =
     let writable-at = c .before .before in
     let register-at = writable-at .before .before in
     let placed = register-at .before .before .before .before in
-    let given = placed .before .before .before .args in
-    judged-stray (given .fit) (given .address) (given .value) (given .full) (going (placed .before)) _ (placed .place .ensures) _ (there register-at) (writable writable-at)
-    (sym (c .before .fits2 .ensures) ∙ not-true (c .before .fits2 .result) (c .if2 .taken))
+    let stray = sym (c .before .fits2 .ensures) ∙ not-true (c .before .fits2 .result) (c .if2 .taken) in
+    rw (going (placed .before), placed .place .ensures, there register-at, writable writable-at, stray) refl
 
 waits-requires : tie.Need-waits-requires
 waits-requires c κs = search needs
 
 returns-5 : tie.Need-returns-5
 returns-5 c =
-    let full-at = c .before .before in
-    let clean-at = full-at .before in
+    let waits-at = c .before in
+    let clean-at = waits-at .before .before in
     let writable-at = clean-at .before .before in
     let register-at = writable-at .before .before in
     let placed = register-at .before .before .before .before in
-    let given = placed .before .before .before .args in
-    judged-full (given .fit) (given .address) (given .value) (given .full) (going (placed .before)) _ (placed .place .ensures) _ (there register-at) (writable writable-at) (clean clean-at)
-    (ap (λ (full : Bool). full && waits (register-at .before .named .given .0 .0)) (full-at .if3 .taken) ∙ sym (c .before .waits .ensures) ∙ c .if4 .taken)
+    let waiting = sym (waits-at .before .waits .ensures) ∙ waits-at .if3 .taken in
+    rw (going (placed .before), placed .place .ensures, there register-at, writable writable-at, clean clean-at, waiting, c .if4 .taken) refl
 
 returns-6 : tie.Need-returns-6
 returns-6 c =
-    let full-at = c .before .before in
-    let clean-at = full-at .before in
+    let waits-at = c .before in
+    let clean-at = waits-at .before .before in
     let writable-at = clean-at .before .before in
     let register-at = writable-at .before .before in
-    let placed = register-at .before .before .before .before in
-    let given = placed .before .before .before .args in
-    judged-to (given .fit) (given .address) (given .value) (given .full) (going (placed .before)) _ (placed .place .ensures) _ (there register-at) (writable writable-at) (clean clean-at)
-    (ap (λ (full : Bool). full && waits (register-at .before .named .given .0 .0)) (full-at .if3 .taken) ∙ sym (c .before .waits .ensures) ∙ c .if4 .left)
+    let waiting = sym (waits-at .before .waits .ensures) ∙ waits-at .if3 .taken in
+    (rw (going (register-at .before .before .before .before .before), there register-at, writable writable-at, clean clean-at, waiting, c .if4 .left) refl, there register-at)
 
 returns-7 : tie.Need-returns-7
 returns-7 c =
-    let clean-at = c .before in
+    let clean-at = c .before .before in
     let writable-at = clean-at .before .before in
     let register-at = writable-at .before .before in
-    let placed = register-at .before .before .before .before in
-    let given = placed .before .before .before .args in
-    judged-to (given .fit) (given .address) (given .value) (given .full) (going (placed .before)) _ (placed .place .ensures) _ (there register-at) (writable writable-at) (clean clean-at)
-    (ap (λ (full : Bool). full && waits (register-at .before .named .given .0 .0)) (c .if3 .left))
+    let at-once = sym (c .before .waits .ensures) ∙ c .if3 .left in
+    (rw (going (register-at .before .before .before .before .before), there register-at, writable writable-at, clean clean-at, at-once) refl, there register-at)
 
 pub judged-spec : {M : Type 1} → statement M
 judged-spec =

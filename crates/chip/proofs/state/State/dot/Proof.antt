@@ -2,6 +2,7 @@
 use mathlib.Core.Path.{sym, _∙_, ap}
 use borrow.Author.Needs.{needs}
 use Rattle.rules.specs.Rule.{ok}
+use Rattle.refusals.specs.Refusal.{fitTold}
 use Rattle.timing.specs.declared.Signals.{Signals}
 use Rattle.chip.specs.Call.{Chip}
 use Rattle.chip.specs.Dot.{afterDot}
@@ -19,7 +20,7 @@ enum-known-fit c = search needs
 returns : tie.Need-returns
 returns c =
     let f = c .before .before .before in
-    sym (dot-unfit (f .before .before .args .self, f .before .before .args .store .now) _ (sym (f .fit .ensures) ∙ c .before .fit2 .given .1))
+    sym (dot-unfit (f .before .before .args .self, f .before .before .args .store .now) _ (sym (f .fit .ensures) ∙ ap fitTold (c .before .fit2 .given .1)))
 
 enum-told : tie.Need-enum-told
 enum-told c = search needs
@@ -31,7 +32,7 @@ step-requires : tie.Need-step-requires
 step-requires c κs =
     let g = c .before in
     let e = g .before in
-    let fine = fit-says _ _ (sym (e .before .before .fit .ensures) ∙ e .enum-told .given .1) in
+    let fine = fit-says _ _ (sym (e .before .before .fit .ensures) ∙ ap fitTold (e .enum-told .given .1)) in
     (fine .0, fine .1, sym (ap (λ (signals : Signals). signals .blank) (g .signals .ensures)))
 
 same-length : tie.Need-same-length
@@ -46,7 +47,7 @@ returns-2 c =
     let chip : Chip = (f .before .before .args .self, f .before .before .args .store .now) in
     ap (λ (after : Chip). (after, ok (g .signals .result))) (t .step .ensures)
     ∙ ap (λ (signals : Signals). (afterDot chip, ok signals)) (g .signals .ensures)
-    ∙ sym (dot-done chip (sym (f .fit .ensures) ∙ e .enum-told .given .1))
+    ∙ sym (dot-done chip (sym (f .fit .ensures) ∙ ap fitTold (e .enum-told .given .1)))
 
 pub dot-spec : {M : Type 1} → statement M
 dot-spec =

@@ -3,7 +3,6 @@ use mathlib.Core.Path.{refl}
 use native.Mathlib.Omega.{arith}
 use borrow.Author.Needs.{needs}
 use borrow.Author.Tests.{eq-eqb, ne-eqb, not-true, not-false}
-use Rattle.chip.specs.Inner.{fit}
 use Rattle.chip.proofs.state.State.fit.Statement.{statement}
 use Rattle.chip.proofs.state.State.fit.Tie as tie
 
@@ -11,17 +10,14 @@ good-requires : tie.Need-good-requires
 good-requires c κs = search needs
 
 returns : tie.Need-returns
-unfolding fit
 returns c = simp (← c .before .good2 .ensures, not-true (c .before .good2 .result) (c .if1 .taken)) refl
 
 returns-2 : tie.Need-returns-2
-unfolding fit
 returns-2 c =
     let g = c .before .before in
     simp (← g .good2 .ensures, not-false (g .good2 .result) (c .before .if1 .left), ne-eqb (g .before .args .length) 4963 (λ e. omega arith)) refl
 
 returns-3 : tie.Need-returns-3
-unfolding fit
 returns-3 c =
     let g = c .before .before in
     simp (← g .good2 .ensures, not-false (g .good2 .result) (c .before .if1 .left), eq-eqb (g .before .args .length) 4963 (omega arith)) refl

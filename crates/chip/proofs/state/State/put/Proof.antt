@@ -7,9 +7,10 @@ use borrow.Author.Tests.{leb-false}
 use Rattle.registers.specs.Store.{storeLength}
 use Rattle.registers.specs.declared.Block.{Block}
 use Rattle.registers.proofs.Store.{store-below}
+use Rattle.registers.proofs.Access.{neither-waits}
 use Rattle.chip.specs.Write.{putIn}
 use Rattle.chip.specs.declared.state.State.{State}
-use Rattle.chip.proofs.Blocks.{neither-waits, stored-put}
+use Rattle.chip.proofs.Blocks.{stored-put}
 use Rattle.chip.proofs.state.State.put.Statement.{statement}
 use Rattle.chip.proofs.state.State.put.Tie as tie
 

@@ -6,8 +6,9 @@ use borrow.Author.Needs.{needs}
 use Rattle.registers.specs.Store.{storeLength}
 use Rattle.registers.specs.declared.Block.{Block}
 use Rattle.registers.proofs.Store.{store-below}
+use Rattle.registers.proofs.Access.{elsewhere-stored}
 use Rattle.chip.specs.Read.{shownIn}
-use Rattle.chip.proofs.Blocks.{elsewhere-stored, stored-shown}
+use Rattle.chip.proofs.Blocks.{stored-shown}
 use Rattle.chip.proofs.state.State.shown.Statement.{statement}
 use Rattle.chip.proofs.state.State.shown.Tie as tie
 

@@ -2,8 +2,7 @@
 use Prim.Native.Nat.{ℕ}
 use mathlib.Core.Path.{ap, _∙_}
 use borrow.Author.Needs.{needs}
-use Rattle.chip.specs.Read.{shownOfControl}
-use Rattle.chip.specs.Inner.{shownBy}
+use Rattle.chip.specs.Read.{shownBy}
 use Rattle.chip.proofs.Good.{good-says}
 use Rattle.chip.proofs.state.State.shown_of_control.Statement.{statement}
 use Rattle.chip.proofs.state.State.shown_of_control.Tie as tie
@@ -18,7 +17,6 @@ shown-by-requires c κs =
     (said .1, said .2, s .pre .1)
 
 returns : tie.Need-returns
-unfolding shownOfControl shownBy
 returns c =
     let s = c .before .before .before .before .args in
     c .shown-by .ensures ∙ ap (λ (room : ℕ). shownBy (s .self .control) room (s .self .at) (s .word)) (c .before .room .ensures)

@@ -4,7 +4,6 @@ use mathlib.Core.Bool.{true}
 use borrow.Author.Needs.{needs}
 use Rattle.chip.specs.Call.{Chip}
 use Rattle.chip.specs.Dot.{drains, moved}
-use Rattle.chip.specs.declared.state.State.{State}
 use Rattle.chip.proofs.Runs.{drains-by, drains-some, draining-dot, idle-dot}
 use Rattle.chip.proofs.state.State.step.Statement.{statement}
 use Rattle.chip.proofs.state.State.step.Tie as tie

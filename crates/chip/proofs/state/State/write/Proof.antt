@@ -1,26 +1,28 @@
 -- `chip::state::State::write` meets its contract: it comes to what its verdict brings. Assumes nothing.
-use mathlib.Core.Path.{_≡_, ap, sym, _∙_}
+use mathlib.Core.Path.{_≡_, ap, sym, _∙_, subst}
 use borrow.Author.Needs.{needs}
-use Rattle.rules.specs.Rule.{ok}
-use Rattle.refusals.specs.declared.Fit.{Fit}
+use Rattle.rules.specs.Rule.{Outcome, ok}
+use Rattle.rules.specs.Faults.{Numbered}
+use Rattle.rules.specs.Checked.{verdict}
+use Rattle.registers.specs.Named.{named}
 use Rattle.registers.proofs.Naming.{named-word}
 use Rattle.chip.specs.Call.{Chip}
-use Rattle.chip.specs.Inner.{judged}
-use Rattle.chip.proofs.Fit.{fit-says}
-use Rattle.chip.proofs.Writes.{goes-says, verdictOn, write-refused, write-goes}
+use Rattle.chip.specs.Write.{writeFaults}
+use Rattle.chip.specs.Inner.{Judged}
+use Rattle.chip.specs.declared.write.Verdict.{Verdict}
+use Rattle.chip.proofs.Writes.{write-tested, write-refused, write-goes, goes-says}
 use Rattle.chip.proofs.state.State.write.Statement.{statement}
 use Rattle.chip.proofs.state.State.write.Tie as tie
 
--- the verdict is that of the state and the store that were passed
-verdict-is : (c : tie.After-judged)
+-- the verdict is on the faults of the state and the store that were passed
+judges : (c : tie.After-judged) {judged : Verdict} → c .judged .result ≡ judged
     → let given = c .before .before .before .before .before .args in
-    verdictOn (given .self, given .store .now) (given .address) (given .value) ≡ c .judged .result
-verdict-is c =
+    Judged (verdict (writeFaults (given .self, given .store .now) (given .address) (given .value))) (named (given .address)) judged
+judges c {judged} is =
     let given = c .before .before .before .before .before .args in
-    let tested = c .before .before in
-    ap (judged _ (given .address) (given .value)) (sym (c .before .full .ensures))
-    ∙ ap (λ (fit : Fit). judged fit (given .address) (given .value) (c .before .full .result)) (sym (tested .fit .ensures))
-    ∙ sym (c .judged .ensures)
+    subst (λ (test : Outcome Numbered (Unit {0})). Judged test (named (given .address)) judged)
+    (sym (write-tested (given .self, given .store .now) (given .address) (given .value) (c .before .before .fit .result) (c .before .full .result) (c .before .before .fit .ensures) (c .before .full .ensures)))
+    (subst (Judged _ (named (given .address))) is (c .judged .ensures))
 
 fit-requires : tie.Need-fit-requires
 fit-requires c κs = search needs
@@ -39,8 +41,9 @@ put-requires c κs =
     let verdict-at = c .before .before in
     let judged-at = verdict-at .before .before in
     let given = judged-at .before .before .before .before .before .args in
-    let goes = goes-says _ (given .address) (given .value) _ _ (verdict-is judged-at ∙ verdict-at .verdict .given .1) in
-    (goes .2, named-word _ _ (goes .1), fit-says _ _ (goes .0) .1)
+    let goes = judges judged-at (verdict-at .verdict .given .1) in
+    let said = goes-says (given .self, given .store .now) (given .address) (given .value) (goes .0) _ (goes .1) in
+    (said .0, named-word _ _ (goes .1), said .1)
 
 enum-known-verdict-2 : tie.Need-enum-known-verdict-2
 enum-known-verdict-2 c = search needs
@@ -54,15 +57,16 @@ returns c =
     let verdict-at = put-at .before .before .before in
     let judged-at = verdict-at .before .before in
     let given = judged-at .before .before .before .before .before .args in
+    let goes = judges judged-at (verdict-at .verdict .given .1) in
     ap (λ (after : Chip). (after, ok tt)) (put-at .put .ensures)
-    ∙ sym (write-goes (given .self, given .store .now) (given .address) (given .value) _ (verdict-is judged-at ∙ verdict-at .verdict .given .1))
+    ∙ sym (write-goes (given .self, given .store .now) (given .address) (given .value) (goes .0) _ (goes .1))
 
 returns-2 : tie.Need-returns-2
 returns-2 c =
     let verdict-at = c .before in
     let judged-at = verdict-at .before .before in
     let given = judged-at .before .before .before .before .before .args in
-    sym (write-refused (given .self, given .store .now) (given .address) (given .value) _ (verdict-is judged-at ∙ verdict-at .verdict2 .given .1))
+    sym (write-refused (given .self, given .store .now) (given .address) (given .value) _ (judges judged-at (verdict-at .verdict2 .given .1)))
 
 pub write-spec : {M : Type 1} → statement M
 write-spec =
