@@ -8,14 +8,6 @@ use Rattle.emulator.proofs.calls.bulitampaw_read.Reads as read
 use Rattle.emulator.proofs.calls.bulitampaw_dot.Reads as dot
 use Rattle.emulator.proofs.calls.bulitampaw_dots.Reads as dots
 use Rattle.emulator.proofs.calls.bulitampaw_line.Reads as line
-use Rattle.emulator.proofs.questions.bulitampaw_entry_defined.Reads as entry-defined
-use Rattle.emulator.proofs.questions.bulitampaw_signal_holds.Reads as signal-holds
-
-pub entry-defined-unique : OneAnswer entry-defined.Post
-entry-defined-unique = by-equation _ _
-
-pub signal-holds-unique : OneAnswer signal-holds.Post
-signal-holds-unique = by-equation _ _
 
 pub fresh-unique : OneAnswer fresh.Post
 fresh-unique = by-equation _ _

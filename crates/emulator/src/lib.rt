@@ -1,4 +1,3 @@
-// What the emulator calls from C: two questions on plain numbers, and the calls on the chip.
+// What the emulator calls from C on the chip.
 pub mod calls;
 mod numbers;
-pub mod questions;

@@ -1,4 +1,4 @@
--- `emulator::questions::bulitampaw_entry_defined` meets its contract: the decoder rests on the 13 bits that count. Assumes nothing.
+-- `questions::bulitampaw_entry_defined` meets its contract: the decoder rests on the 13 bits that count. Assumes nothing.
 use Prim.Native.Nat.{ℕ}
 use mathlib.Core.Path.{sym, ap, _∙_}
 use borrow.Author.Needs.{needs}
@@ -6,9 +6,9 @@ use Rattle.plain.specs.Numbers.{number}
 use Rattle.colour.specs.Entry.{isDefined}
 use Rattle.colour.specs.declared.entry.Decoded.{Decoded}
 use Rattle.colour.proofs.Kept.{decoded-kept}
-use Rattle.emulator.specs.Questions.{entryDefined}
-use Rattle.emulator.proofs.questions.bulitampaw_entry_defined.Statement.{statement}
-use Rattle.emulator.proofs.questions.bulitampaw_entry_defined.Tie as tie
+use Rattle.questions.specs.Questions.{entryDefined}
+use Rattle.questions.proofs.bulitampaw_entry_defined.Statement.{statement}
+use Rattle.questions.proofs.bulitampaw_entry_defined.Tie as tie
 
 -- what C is answered of what the decoder says
 abbrev answer : Decoded → ℕ

@@ -1,6 +1,6 @@
-// The two questions: plain numbers in, a plain number out.
+// The two questions that C asks: plain numbers in, a plain number out.
 ghost use mathlib.Core.Path.{_≡_};
-ghost use Rattle.emulator.specs.Questions.{entryDefined, signalHolds};
+ghost use Rattle.questions.specs.Questions.{entryDefined, signalHolds};
 use colour::entry::Decoded;
 use plain::number;
 

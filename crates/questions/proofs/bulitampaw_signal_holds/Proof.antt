@@ -1,10 +1,10 @@
--- `emulator::questions::bulitampaw_signal_holds` meets its contract: the window rule, as a number. Assumes nothing.
+-- `questions::bulitampaw_signal_holds` meets its contract: the window rule, as a number. Assumes nothing.
 use mathlib.Core.Path.{ap, _∙_}
 use borrow.Author.Needs.{needs}
 use Rattle.plain.specs.Numbers.{number}
-use Rattle.emulator.specs.Questions.{signalHolds}
-use Rattle.emulator.proofs.questions.bulitampaw_signal_holds.Statement.{statement}
-use Rattle.emulator.proofs.questions.bulitampaw_signal_holds.Tie as tie
+use Rattle.questions.specs.Questions.{signalHolds}
+use Rattle.questions.proofs.bulitampaw_signal_holds.Statement.{statement}
+use Rattle.questions.proofs.bulitampaw_signal_holds.Tie as tie
 
 in-window-requires : tie.Need-in-window-requires
 in-window-requires c κs = search needs
