@@ -5,10 +5,10 @@ use mathlib.Core.Bool.{true, false, and-false, or-true}
 use mathlib.Core.Logic.{_⊎_, inl, inr}
 use native.Mathlib.Omega.{arith}
 use borrow.Author.Tests.{le-leb, lt-leb, eq-eqb, ne-eqb}
-use lib.Dec.{leb, eqb}
+use lib.Dec.{eqb}
 use Rattle.rules.specs.Rule.{value}
 use Rattle.pixels.specs.Cells.{PixelCell, glyph}
-use Rattle.pixels.specs.Cursor.{within32, inGlyph, onCrossHair, cursorAt}
+use Rattle.pixels.specs.Cursor.{inGlyph, onCrossHair, cursorAt}
 use Rattle.pixels.specs.declared.Screen.{Screen}
 
 module _ (memory : PixelCell → ℕ) (screen : Screen) (x : ℕ) where
@@ -38,15 +38,15 @@ module _ (memory : PixelCell → ℕ) (screen : Screen) (x : ℕ) where
       -- the pixel is right or left of the glyph
       pub beside : (screen .cx < x) ⊎ (x + 32 ≤ screen .cx) → value memory (cursorAt screen x) ≡ 0
       unfolding cursorAt inGlyph
-      beside (inl h) = rw (on, no-cross, lt-leb x (screen .cx) h, and-false (leb (screen .cx) (x + 31)))
+      beside (inl h) = rw (on, no-cross, lt-leb x (screen .cx) h, and-false _)
       beside (inr h) = rw (on, no-cross, lt-leb (screen .cx) (x + 31) (omega arith))
 
       -- below or above it
       pub beyond : (screen .cy < screen .y) ⊎ (screen .y + 32 ≤ screen .cy) → value memory (cursorAt screen x) ≡ 0
       unfolding cursorAt inGlyph
       beyond (inl h) =
-          rw (on, no-cross, lt-leb (screen .y) (screen .cy) h, and-false (leb (screen .cy) (screen .y + 31)), and-false (within32 (screen .cx) x))
-      beyond (inr h) = rw (on, no-cross, lt-leb (screen .cy) (screen .y + 31) (omega arith), and-false (within32 (screen .cx) x))
+          rw (on, no-cross, lt-leb (screen .y) (screen .cy) h, and-false _, and-false _)
+      beyond (inr h) = rw (on, no-cross, lt-leb (screen .cy) (screen .y + 31) (omega arith), and-false _)
 
       -- in it
       pub in-glyph : x ≤ screen .cx → screen .cx ≤ x + 31 → screen .y ≤ screen .cy → screen .cy ≤ screen .y + 31
