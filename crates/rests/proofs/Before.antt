@@ -21,7 +21,7 @@ use Rattle.pixels.specs.Colour.{colourOf}
 use Rattle.setup.specs.Faults.{lineFaults}
 use Rattle.setup.specs.declared.controls.Controls.{Controls}
 use Rattle.setup.specs.declared.setup.Setup.{Setup}
-use Rattle.line.specs.Screen.{screenOf}
+use Rattle.line.specs.Screen.{screenIn}
 use Rattle.line.specs.Cells.{Cell, ofTable, ofColour, Lent, view}
 use Rattle.line.specs.Line.{inTable, startOf, idAt, definedAt, entryAt, entriesOf, coloursOf, lineRule, lineOf}
 use Rattle.rests.specs.Listed.{NoColour}
@@ -67,7 +67,7 @@ module _ (setup : Setup) where
   pub never-colours : (entries : List Entry) → NeverRefuses (coloursOf setup entries)
   unfolding coloursOf
   never-colours entries =
-      never-each-of _ (λ entry x. never-within _ ofColour (colourOf (screenOf (setup .controls) (setup .y)) entry x)) entries 0
+      never-each-of _ (λ entry x. never-within _ ofColour (colourOf (screenIn setup) entry x)) entries 0
 
   module _ (lent : Lent) where
     -- a line that is refused by what it goes by alone reads nothing

@@ -19,7 +19,7 @@ use Rattle.chip.specs.declared.state.State.{State}
 use Rattle.setup.specs.Controls.{controlsOf}
 use Rattle.setup.specs.Faults.{lineFaults}
 use Rattle.setup.specs.declared.setup.Setup.{Setup}
-use Rattle.line.specs.Screen.{screenOf}
+use Rattle.line.specs.Screen.{screenIn}
 use Rattle.line.specs.Cells.{ofColour, Lent, view}
 use Rattle.line.specs.Line.{inColours, entriesOf, coloursOf, lineRule, lineOf}
 use Rattle.line.specs.Drawn.{setupOf, drawn}
@@ -43,9 +43,9 @@ module _ {R Q B : Type 0} (memory : Q → ℕ) (rule : B → ℕ → Rule R Q �
 
 module _ (setup : Setup) (lent : Lent) where
   -- a pixel's colour, as a rule of the line
-  pixel-below : (entry : Entry) (x answer : ℕ) → run (view lent) (inColours (colourOf (screenOf (setup .controls) (setup .y)) entry x)) ≡ ok answer → answer < 2 ^ 24
+  pixel-below : (entry : Entry) (x answer : ℕ) → run (view lent) (inColours (colourOf (screenIn setup) entry x)) ≡ ok answer → answer < 2 ^ 24
   pixel-below entry x answer is =
-      let screen = screenOf (setup .controls) (setup .y) in
+      let screen = screenIn setup in
       let same : answer ≡ value (pixelView (lent .store) (lent .normal) (lent .overlay)) (colourOf screen entry x) =
       cc (is, run-within-value (λ refusal. absurd refusal) ofColour (view lent) (colourOf screen entry x)) in
       rw same (colour-below (lent .store) (lent .normal) (lent .overlay) screen entry x)
