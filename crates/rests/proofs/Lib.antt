@@ -13,8 +13,8 @@ pub mod OnlyListed
 pub mod AllListed
 pub mod ByList
 pub mod Outputs
-pub mod Below
 pub mod Active
 pub mod Hidden
 pub mod Reasons
 pub mod Answers
+pub mod Below
