@@ -1,3 +1,4 @@
+pub mod Defined
 pub mod Entries
 pub mod Pass
 pub mod Whole

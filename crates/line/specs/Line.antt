@@ -20,7 +20,7 @@ use Rattle.pixels.specs.Colour.{colourOf}
 use Rattle.setup.specs.Faults.{lineFaults}
 use Rattle.setup.specs.declared.controls.Controls.{Controls}
 use Rattle.setup.specs.declared.setup.Setup.{Setup}
-use Rattle.line.specs.Screen.{screenOf}
+use Rattle.line.specs.Screen.{screenIn}
 use Rattle.line.specs.Cells.{Cell, ofTable, windowEntry, ofColour, Lent, view}
 
 -- ---- the first pass: window entries
@@ -63,7 +63,7 @@ inColours = within (λ refusal. absurd refusal) ofColour
 
 -- the colours of pixels with these window entries
 unfoldable pub coloursOf : Setup → List Entry → Rule Numbered Cell (List ℕ)
-coloursOf setup entries = eachOf (λ entry x. inColours (colourOf (screenOf (setup .controls) (setup .y)) entry x)) entries 0
+coloursOf setup entries = eachOf (λ entry x. inColours (colourOf (screenIn setup) entry x)) entries 0
 
 -- ---- the line
 

@@ -2,6 +2,7 @@
 use Prim.Native.Nat.{ℕ}
 use Rattle.pixels.specs.declared.Screen.{Screen}
 use Rattle.setup.specs.declared.controls.Controls.{Controls}
+use Rattle.setup.specs.declared.setup.Setup.{Setup}
 
 -- what they say of every pixel of line y
 abbrev pub screenOf : Controls → ℕ → Screen
@@ -15,3 +16,7 @@ screenOf controls y =
       cy = controls .cy;
       y = y;
     }
+
+-- the same by what a line goes by
+abbrev pub screenIn : Setup → Screen
+screenIn setup = screenOf (setup .controls) (setup .y)

@@ -1,7 +1,7 @@
 -- Which cursor colour shows, case by case. Assumes nothing.
 use Prim.Native.Nat.{ℕ, _+_, _-_, _≤_, _<_}
-use mathlib.Core.Path.{_≡_}
-use mathlib.Core.Bool.{true, false, and-false, or-true}
+use mathlib.Core.Path.{_≡_, ap, _∙_}
+use mathlib.Core.Bool.{Bool, true, false, _&&_, and-false, or-true}
 use mathlib.Core.Logic.{_⊎_, inl, inr}
 use native.Mathlib.Omega.{arith}
 use borrow.Author.Tests.{le-leb, lt-leb, eq-eqb, ne-eqb}
@@ -10,6 +10,19 @@ use Rattle.rules.specs.Rule.{value}
 use Rattle.pixels.specs.Cells.{PixelCell, glyph}
 use Rattle.pixels.specs.Cursor.{within32, inGlyph, onCrossHair, cursorAt}
 use Rattle.pixels.specs.declared.Screen.{Screen}
+
+module _ (cursor place : ℕ) where
+  -- a place behind the cursor's
+  behind : cursor < place → within32 cursor place ≡ false
+  behind h = rw (lt-leb place cursor h, and-false _)
+
+  -- one more than 31 before it
+  before : place + 32 ≤ cursor → within32 cursor place ≡ false
+  before h = ap (λ (near : Bool). near && leb place cursor) (lt-leb cursor (place + 31) (omega arith))
+
+  -- one of the 32
+  among : place ≤ cursor → cursor ≤ place + 31 → within32 cursor place ≡ true
+  among low high = ap (λ (near : Bool). near && leb place cursor) (le-leb cursor (place + 31) high) ∙ le-leb place cursor low
 
 module _ (memory : PixelCell → ℕ) (screen : Screen) (x : ℕ) where
   -- the cursor is off
@@ -38,19 +51,18 @@ module _ (memory : PixelCell → ℕ) (screen : Screen) (x : ℕ) where
       -- the pixel is right or left of the glyph
       pub beside : (screen .cx < x) ⊎ (x + 32 ≤ screen .cx) → value memory (cursorAt screen x) ≡ 0
       unfolding cursorAt inGlyph
-      beside (inl h) = rw (on, no-cross, lt-leb x (screen .cx) h, and-false (leb (screen .cx) (x + 31)))
-      beside (inr h) = rw (on, no-cross, lt-leb (screen .cx) (x + 31) (omega arith))
+      beside (inl h) = rw (on, no-cross, behind (screen .cx) x h)
+      beside (inr h) = rw (on, no-cross, before (screen .cx) x h)
 
       -- below or above it
       pub beyond : (screen .cy < screen .y) ⊎ (screen .y + 32 ≤ screen .cy) → value memory (cursorAt screen x) ≡ 0
       unfolding cursorAt inGlyph
-      beyond (inl h) =
-          rw (on, no-cross, lt-leb (screen .y) (screen .cy) h, and-false (leb (screen .cy) (screen .y + 31)), and-false (within32 (screen .cx) x))
-      beyond (inr h) = rw (on, no-cross, lt-leb (screen .cy) (screen .y + 31) (omega arith), and-false (within32 (screen .cx) x))
+      beyond (inl h) = rw (on, no-cross, behind (screen .cy) (screen .y) h, and-false _)
+      beyond (inr h) = rw (on, no-cross, before (screen .cy) (screen .y) h, and-false _)
 
       -- in it
       pub in-glyph : x ≤ screen .cx → screen .cx ≤ x + 31 → screen .y ≤ screen .cy → screen .cy ≤ screen .y + 31
           → value memory (cursorAt screen x) ≡ memory (glyph (screen .y + 31 - screen .cy) (x + 31 - screen .cx))
       unfolding cursorAt inGlyph
       in-glyph right left bottom top =
-          rw (on, no-cross, le-leb x (screen .cx) right, le-leb (screen .cx) (x + 31) left, le-leb (screen .y) (screen .cy) bottom, le-leb (screen .cy) (screen .y + 31) top)
+          rw (on, no-cross, among (screen .cx) x right left, among (screen .cy) (screen .y) bottom top)

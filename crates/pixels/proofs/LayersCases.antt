@@ -17,7 +17,7 @@ use Rattle.colour.specs.declared.entry.Shown.{Shown}
 use Rattle.colour.specs.declared.entry.Shown.the-variants.{MapEntry, Colour}
 use Rattle.pixels.specs.Cells.{PixelCell, cursorColour, overlayByte, sample, mapEntry}
 use Rattle.pixels.specs.Cursor.{cursorAt}
-use Rattle.pixels.specs.Colour.{throughGamma, shownColour, normalAt, plainAt, overlaid, overlayCounts, overlayAt, underCursor, cursorShown, colourOf}
+use Rattle.pixels.specs.Colour.{ofCursor, ofOverlay, ofNormal, skipsGamma, throughGamma, shownColour, normalAt, plainAt, overlayColours, overlaid, overlayCounts, overlayAt, underCursor, cursorShown, colourOf}
 use Rattle.pixels.specs.declared.Screen.{Screen}
 
 module _ (memory : PixelCell → ℕ) (depth : ℕ) (entry : Entry) (x : ℕ) {word : ℕ} where
@@ -38,10 +38,10 @@ module _ (memory : PixelCell → ℕ) (depth : ℕ) (entry : Entry) (x : ℕ) {w
   normal-of-colour shows is = normal-of shows is
 
   -- a plain colour is the normal one through gamma
-  pub plain-of-normal : {normal : ℕ} → normal ≡ value memory (normalAt depth entry x) → word ≡ value memory (throughGamma (entry .bypass) normal)
+  pub plain-of-normal : {normal : ℕ} → normal ≡ value memory (normalAt depth entry x) → word ≡ value memory (throughGamma (skipsGamma ofNormal entry) normal)
       → word ≡ value memory (plainAt depth entry x)
   unfolding plainAt
-  plain-of-normal of is = rw (value-then memory (normalAt depth entry x) (throughGamma (entry .bypass)), ← of) is
+  plain-of-normal of is = rw (value-then memory (normalAt depth entry x) (throughGamma (skipsGamma ofNormal entry)), ← of) is
 
 module _ (memory : PixelCell → ℕ) (screen : Screen) (entry : Entry) (x : ℕ) where
   -- overlay counts
@@ -61,8 +61,8 @@ module _ (memory : PixelCell → ℕ) (screen : Screen) (entry : Entry) (x : ℕ
     under-clear none is = is ∙ sym (value-then memory (overlayAt screen entry x) _ ∙ rw (← of, eq-eqb byte 0 none))
 
     -- overlay shows
-    pub under-overlay : (byte ≡ 0 → ⊥) → {mapped : ℕ} → mapped ≡ memory (mapEntry (4352 + byte))
-        → word ≡ value memory (throughGamma (entry .bypass) mapped) → word ≡ value memory (underCursor screen entry x)
+    pub under-overlay : (byte ≡ 0 → ⊥) → {mapped : ℕ} → mapped ≡ memory (mapEntry (overlayColours + byte))
+        → word ≡ value memory (throughGamma (skipsGamma ofOverlay entry) mapped) → word ≡ value memory (underCursor screen entry x)
     unfolding underCursor overlaid
     under-overlay some map is = rw map at is ∙ sym (value-then memory (overlayAt screen entry x) _ ∙ rw (← of, ne-eqb byte 0 some))
 
@@ -72,10 +72,11 @@ module _ (memory : PixelCell → ℕ) (screen : Screen) (entry : Entry) (x : ℕ
     unfolding colourOf
     colour-under none is = is ∙ sym (value-then memory (cursorAt screen x) _ ∙ rw (← of, eq-eqb number 0 none))
 
-    -- one does, without gamma
-    pub colour-of-cursor : (number ≡ 0 → ⊥) → word ≡ memory (cursorColour number) → word ≡ value memory (colourOf screen entry x)
-    unfolding colourOf cursorShown throughGamma
-    colour-of-cursor some is = is ∙ sym (value-then memory (cursorAt screen x) _ ∙ rw (← of, ne-eqb number 0 some))
+    -- one does
+    pub colour-of-cursor : (number ≡ 0 → ⊥) → {stored : ℕ} → stored ≡ memory (cursorColour number)
+        → word ≡ value memory (throughGamma (skipsGamma ofCursor entry) stored) → word ≡ value memory (colourOf screen entry x)
+    unfolding colourOf cursorShown
+    colour-of-cursor some holds is = rw holds at is ∙ sym (value-then memory (cursorAt screen x) _ ∙ rw (← of, ne-eqb number 0 some))
 
   -- where neither cursor nor overlay shows, the colour is the plain one
   pub colour-plain : overlayCounts screen entry ≡ false → value memory (cursorAt screen x) ≡ 0

@@ -3,4 +3,5 @@ pub mod Gamma
 pub mod Indices
 pub mod CursorCases
 pub mod LayersCases
+pub mod Below
 pub mod Unique

@@ -57,9 +57,13 @@ normalAt depth entry x = do
 unfoldable pub plainAt : ℕ → Entry → ℕ → Rule ⊥ PixelCell ℕ
 plainAt depth entry x = normalAt depth entry x >>= throughGamma (skipsGamma ofNormal entry)
 
--- the colour of an overlay byte, map entry 4,352 + byte, through gamma
+-- the map entry of overlay byte 0: the overlay colours stand from it on, that of a byte as many entries behind it
+abbrev pub overlayColours : ℕ
+overlayColours = 4352
+
+-- the colour of an overlay byte, through gamma
 unfoldable pub overlaid : Entry → ℕ → Rule ⊥ PixelCell ℕ
-overlaid entry byte = get (mapEntry (4352 + byte)) >>= throughGamma (skipsGamma ofOverlay entry)
+overlaid entry byte = get (mapEntry (overlayColours + byte)) >>= throughGamma (skipsGamma ofOverlay entry)
 
 -- overlay is looked at where the control word and the window entry both say so
 abbrev pub overlayCounts : Screen → Entry → Bool

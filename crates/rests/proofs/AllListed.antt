@@ -15,7 +15,7 @@ use Rattle.pixels.specs.Cells.{PixelCell}
 use Rattle.pixels.specs.Colour.{colourOf}
 use Rattle.setup.specs.Faults.{lineFaults}
 use Rattle.setup.specs.declared.setup.Setup.{Setup}
-use Rattle.line.specs.Screen.{screenOf}
+use Rattle.line.specs.Screen.{screenIn}
 use Rattle.line.specs.Cells.{Cell, ofTable, windowEntry, ofColour, Lent, view}
 use Rattle.line.specs.Line.{entriesOf, inColours, coloursOf, lineRule, lineOf}
 use Rattle.rests.specs.Listed.{PixelListed, DrawnListed, NoFrameListed, NoLineListed, WholeListed, RefusedListed, of-7, of-8, of-9, ListedFor, Listed}
@@ -59,7 +59,7 @@ module _ (setup : Setup) (lent : Lent) where
     pixel-listed : {cell : PixelCell} → PixelListed setup lent cell → Among (ofColour cell) (reads (view lent) (coloursOf setup entries))
     unfolding entriesOf coloursOf
     pixel-listed {cell} listed =
-        let screen = screenOf (setup .controls) (setup .y) in
+        let screen = screenIn setup in
         let two = both (view lent) (starting setup lent) (passing setup lent) e in
         each-of-read (view lent) (λ entry x. inColours (colourOf screen entry x)) (entering setup lent (two .first))
         (λ entry x. (_, run-within-value (λ (refusal : ⊥). absurd refusal) ofColour (view lent) (colourOf screen entry x))) (setup .controls .width) 0 (two .next)

@@ -12,8 +12,6 @@ use Rattle.rules.proofs.Checked.{run-checked, checked-reads}
 use Rattle.rules.proofs.Value.{never-within}
 use Rattle.colour.specs.Entry.{decoded}
 use Rattle.colour.specs.declared.entry.Entry.{Entry}
-use Rattle.colour.specs.declared.entry.Decoded.{Decoded}
-use Rattle.colour.specs.declared.entry.Decoded.the-variants.{Defined, Undefined}
 use Rattle.windows.specs.Table.{TableCell}
 use Rattle.windows.specs.Frame.{lineTableOf}
 use Rattle.windows.specs.Ids.{idOf}
@@ -21,9 +19,10 @@ use Rattle.pixels.specs.Colour.{colourOf}
 use Rattle.setup.specs.Faults.{lineFaults}
 use Rattle.setup.specs.declared.controls.Controls.{Controls}
 use Rattle.setup.specs.declared.setup.Setup.{Setup}
-use Rattle.line.specs.Screen.{screenOf}
+use Rattle.line.specs.Screen.{screenIn}
 use Rattle.line.specs.Cells.{Cell, ofTable, ofColour, Lent, view}
-use Rattle.line.specs.Line.{inTable, startOf, idAt, definedAt, entryAt, entriesOf, coloursOf, lineRule, lineOf}
+use Rattle.line.specs.Line.{inTable, startOf, idAt, entryAt, entriesOf, coloursOf, lineRule, lineOf}
+use Rattle.line.proofs.Defined.{asks-nothing}
 use Rattle.rests.specs.Listed.{NoColour}
 
 -- ---- the first pass asks for no other cell
@@ -43,17 +42,12 @@ module _ (controls : Controls) (tableBytes : ℕ) where
   unfolding idAt
   asks-id start x = asks-cond NoColour (controls .ids) _ _ (asks-table (idOf tableBytes start x)) tt
 
-  -- what a window entry says
-  asks-defined : (x : ℕ) (said : Decoded) → Asks NoColour (definedAt x said)
-  asks-defined x (Defined entry) = tt
-  asks-defined x Undefined = tt
-
   -- a pixel's window entry
   asks-entry : (start x : ℕ) → Asks NoColour (entryAt controls tableBytes start x)
   unfolding entryAt
   asks-entry start x =
       asks-then NoColour (idAt controls tableBytes start x) _ (asks-id start x)
-      (λ id. (tt, λ word. asks-defined x (decoded word (controls .depth))))
+      (λ id. (tt, λ word. asks-nothing NoColour x (decoded word (controls .depth))))
 
 module _ (setup : Setup) where
   -- the whole pass
@@ -67,7 +61,7 @@ module _ (setup : Setup) where
   pub never-colours : (entries : List Entry) → NeverRefuses (coloursOf setup entries)
   unfolding coloursOf
   never-colours entries =
-      never-each-of _ (λ entry x. never-within _ ofColour (colourOf (screenOf (setup .controls) (setup .y)) entry x)) entries 0
+      never-each-of _ (λ entry x. never-within _ ofColour (colourOf (screenIn setup) entry x)) entries 0
 
   module _ (lent : Lent) where
     -- a line that is refused by what it goes by alone reads nothing

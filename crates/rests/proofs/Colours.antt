@@ -15,9 +15,9 @@ use Rattle.colour.specs.declared.entry.Shown.{Shown}
 use Rattle.colour.specs.declared.entry.Shown.the-variants.{MapEntry, Colour}
 use Rattle.pixels.specs.Cells.{Channel, inRed, inGreen, inBlue, channelIn, PixelCell, glyph, overlayByte, mapEntry, gamma}
 use Rattle.pixels.specs.Cursor.{glyphPlace, inGlyph, onCrossHair, cursorAt}
-use Rattle.pixels.specs.Colour.{throughGamma, shownColour, normalAt, plainAt, overlaid, overlayCounts, overlayAt, underCursor, cursorShown, colourOf}
+use Rattle.pixels.specs.Colour.{Layer, ofCursor, ofOverlay, ofNormal, skipsGamma, throughGamma, shownColour, normalAt, plainAt, overlaid, overlayCounts, overlayAt, underCursor, cursorShown, colourOf}
 use Rattle.pixels.specs.declared.Screen.{Screen}
-use Rattle.rests.specs.ColourList.{cursorHere, overlayHere, usedCell, beforeGamma, ColourListed}
+use Rattle.rests.specs.ColourList.{cursorHere, overlayHere, usedCell, layerHere, colourIn, ColourListed}
 use Rattle.rests.proofs.Parts.{Among, Read, by-first, by-second, read-either, either-read}
 
 -- ---- rules that refuse nothing
@@ -74,6 +74,29 @@ module _ (memory : PixelCell → ℕ) where
             subst (ColourListed memory screen entry x) (sym (List·Memᴰ·eq-of-singleton there))
             (record { on = e; no-crosshair = f; inside = g; at-row = refl; at-column = refl })
 
+    -- ---- the layer that shows
+
+    -- the cursor, where it shows
+    pub cursor-here : cursorHere memory screen entry x ≢ 0 → layerHere memory screen entry x ≡ ofCursor
+    cursor-here shows = rw (ne-eqb _ _ shows)
+
+    -- overlay, where it shows and the cursor is transparent
+    pub overlay-here : cursorHere memory screen entry x ≡ 0 → overlayHere memory screen entry x ≢ 0 → layerHere memory screen entry x ≡ ofOverlay
+    overlay-here transparent shows = rw (eq-eqb _ _ transparent, ne-eqb _ _ shows)
+
+    -- the normal one, where both are transparent
+    pub normal-here : cursorHere memory screen entry x ≡ 0 → overlayHere memory screen entry x ≡ 0 → layerHere memory screen entry x ≡ ofNormal
+    normal-here transparent clear = rw (eq-eqb _ _ transparent, eq-eqb _ _ clear)
+
+    -- gamma words, of the colour of the layer that shows
+    gamma-listed : (layer : Layer) → layerHere memory screen entry x ≡ layer → {cell : PixelCell}
+        → Among cell (reads memory (throughGamma (skipsGamma layer entry) (colourIn memory screen entry x layer))) → ColourListed memory screen entry x cell
+    gamma-listed layer is here =
+        let found = gamma-read (skipsGamma layer entry) (colourIn memory screen entry x layer) here in
+        subst (ColourListed memory screen entry x) (sym (found .1 .1)) (record { through = rw is (found .0); hit = rw is refl })
+
+    -- ---- its cells
+
     module _ (transparent : cursorHere memory screen entry x ≡ 0) where
       -- the overlay byte
       overlay-read : {cell : PixelCell} → Among cell (reads memory (overlayAt screen entry x)) → ColourListed memory screen entry x cell
@@ -85,14 +108,6 @@ module _ (memory : PixelCell → ℕ) where
           by true e there =
               subst (ColourListed memory screen entry x) (sym (List·Memᴰ·eq-of-singleton there)) (record { transparent = transparent; counts = e; here = refl })
           by false e there = absurd (List·Memᴰ·not-nil there)
-
-      -- gamma words, of the colour before gamma
-      gamma-listed : {cell : PixelCell} {word : ℕ} → beforeGamma memory screen entry x ≡ word → Among cell (reads memory (throughGamma (entry .bypass) word))
-          → ColourListed memory screen entry x cell
-      gamma-listed {cell} {word} e here =
-          let found = gamma-read (entry .bypass) word here in
-          subst (ColourListed memory screen entry x) (sym (found .1 .1))
-          (record { transparent = transparent; no-bypass = found .0; hit = rw e refl })
 
       module _ (clear : overlayHere memory screen entry x ≡ 0) where
         -- the sample and the map entry that it hits
@@ -111,8 +126,8 @@ module _ (memory : PixelCell → ℕ) where
         plain-read : {cell : PixelCell} → Among cell (reads memory (plainAt (screen .depth) entry x)) → ColourListed memory screen entry x cell
         unfolding plainAt
         plain-read here =
-            ⊎-elim normal-read (gamma-listed (rw (eq-eqb _ _ clear) refl))
-            (read-value memory (normalAt (screen .depth) entry x) (throughGamma (entry .bypass)) here)
+            ⊎-elim normal-read (gamma-listed ofNormal (normal-here transparent clear))
+            (read-value memory (normalAt (screen .depth) entry x) (throughGamma (skipsGamma ofNormal entry)) here)
 
       -- all of an overlay colour
       overlaid-read : overlayHere memory screen entry x ≢ 0 → {cell : PixelCell}
@@ -121,7 +136,7 @@ module _ (memory : PixelCell → ℕ) where
       overlaid-read shows here =
           ⊎-elim
           (λ hit. subst (ColourListed memory screen entry x) (sym hit) (record { transparent = transparent; hit = inl (shows, refl) }))
-          (gamma-listed (rw (ne-eqb _ _ shows) refl))
+          (gamma-listed ofOverlay (overlay-here transparent shows))
           (List·Memᴰ·cases-cons here)
 
       -- all that is read where the cursor is transparent
@@ -136,12 +151,15 @@ module _ (memory : PixelCell → ℕ) where
           by true e there = plain-read (eqb-true _ _ e) there
           by false e there = overlaid-read (eqb-false _ _ e) there
 
-    -- the cursor colour shown
+    -- all of a cursor colour
     shown-cursor-read : cursorHere memory screen entry x ≢ 0 → {cell : PixelCell}
         → Among cell (reads memory (cursorShown entry (cursorHere memory screen entry x))) → ColourListed memory screen entry x cell
-    unfolding cursorShown throughGamma
+    unfolding cursorShown
     shown-cursor-read shows here =
-        subst (ColourListed memory screen entry x) (sym (List·Memᴰ·eq-of-singleton here)) (record { shows = shows; shown = refl })
+        ⊎-elim
+        (λ hit. subst (ColourListed memory screen entry x) (sym hit) (record { shows = shows; shown = refl }))
+        (gamma-listed ofCursor (cursor-here shows))
+        (List·Memᴰ·cases-cons here)
 
     -- every cell that a pixel's colour reads is listed
     pub colour-read : {cell : PixelCell} → Among cell (reads memory (colourOf screen entry x)) → ColourListed memory screen entry x cell

@@ -18,3 +18,4 @@ pub mod Active
 pub mod Hidden
 pub mod Reasons
 pub mod Answers
+pub mod Below

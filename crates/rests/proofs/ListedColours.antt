@@ -15,11 +15,11 @@ use Rattle.colour.specs.declared.entry.Shown.{Shown}
 use Rattle.colour.specs.declared.entry.Shown.the-variants.{MapEntry}
 use Rattle.pixels.specs.Cells.{Channel, inRed, inGreen, inBlue, channelIn, PixelCell, glyph, cursorColour, overlayByte, sample, mapEntry, gamma}
 use Rattle.pixels.specs.Cursor.{cursorAt}
-use Rattle.pixels.specs.Colour.{throughGamma, shownColour, normalAt, plainAt, overlaid, overlayAt, underCursor, cursorShown, colourOf}
+use Rattle.pixels.specs.Colour.{Layer, ofCursor, ofOverlay, ofNormal, skipsGamma, throughGamma, shownColour, normalAt, plainAt, overlayColours, overlaid, overlayAt, underCursor, cursorShown, colourOf}
 use Rattle.pixels.specs.declared.Screen.{Screen}
-use Rattle.rests.specs.ColourList.{cursorHere, overlayHere, usedCell, beforeGamma, GlyphListed, CursorColourListed, OverlayListed, SampleListed, MapListed, GammaListed, ColourListed}
+use Rattle.rests.specs.ColourList.{cursorHere, overlayHere, usedCell, layerHere, colourIn, beforeGamma, GlyphListed, CursorColourListed, OverlayListed, SampleListed, MapListed, GammaListed, ColourListed}
 use Rattle.rests.proofs.Parts.{Among}
-use Rattle.rests.proofs.Colours.{value-read}
+use Rattle.rests.proofs.Colours.{value-read, cursor-here, overlay-here, normal-here}
 
 module _ (memory : PixelCell → ℕ) where
   -- each channel's byte of the gamma word that it hits
@@ -37,6 +37,12 @@ module _ (memory : PixelCell → ℕ) where
         → Among cell (reads memory (colourOf screen entry x))
     unfolding colourOf
     under transparent {cell} here = value-read memory (cursorAt screen x) _ (inr (rw (eq-eqb _ _ transparent) here))
+
+    -- what is read where it shows
+    shown : cursorHere memory screen entry x ≢ 0 → {cell : PixelCell} → Among cell (reads memory (cursorShown entry (cursorHere memory screen entry x)))
+        → Among cell (reads memory (colourOf screen entry x))
+    unfolding colourOf
+    shown shows here = value-read memory (cursorAt screen x) _ (inr (rw (ne-eqb _ _ shows) here))
 
     -- what is read where overlay is transparent too
     plain : overlayHere memory screen entry x ≡ 0 → {cell : PixelCell} → Among cell (reads memory (plainAt (screen .depth) entry x))
@@ -59,9 +65,8 @@ module _ (memory : PixelCell → ℕ) where
 
     -- the cursor colour shown
     cursor-listed : {number : ℕ} → CursorColourListed memory screen entry x number → Among (cursorColour number) (reads memory (colourOf screen entry x))
-    unfolding colourOf cursorShown
-    cursor-listed listed =
-        value-read memory (cursorAt screen x) _ (inr (rw (ne-eqb _ _ (listed .shows)) (List·Memᴰ·head (ap cursorColour (listed .shown)))))
+    unfolding cursorShown
+    cursor-listed listed = shown (listed .shows) (List·Memᴰ·head (ap cursorColour (listed .shown)))
 
     -- the overlay byte
     overlay-listed : {pixel : ℕ} → OverlayListed memory screen entry x pixel → Among (overlayByte pixel) (reads memory (colourOf screen entry x))
@@ -79,7 +84,7 @@ module _ (memory : PixelCell → ℕ) where
 
     module _ {number : ℕ} where
       -- the map entry that overlay hits
-      map-by-overlay : overlayHere memory screen entry x ≢ 0 → number ≡ 4352 + overlayHere memory screen entry x
+      map-by-overlay : overlayHere memory screen entry x ≢ 0 → number ≡ overlayColours + overlayHere memory screen entry x
           → Among (mapEntry number) (reads memory (underCursor screen entry x))
       unfolding overlaid
       map-by-overlay shows hit = over shows (List·Memᴰ·head (ap mapEntry hit))
@@ -99,30 +104,39 @@ module _ (memory : PixelCell → ℕ) where
           under (listed .transparent) (⊎-elim (λ hit. map-by-overlay (hit .0) (hit .1)) (λ hit. map-by-sample (hit .0) (hit .1)) (listed .hit))
 
     module _ {channel : Channel} {number : ℕ} (listed : GammaListed memory screen entry x (channelIn channel (channelsOf (beforeGamma memory screen entry x))) number) where
-      -- the gamma word of a colour that is the one before gamma
-      gamma-of : {word : ℕ} → beforeGamma memory screen entry x ≡ word → Among (gamma channel number) (reads memory (throughGamma (entry .bypass) word))
-      gamma-of {word} is =
-          Memᴰ·cast (ap (gamma channel) (listed .hit ∙ ap (λ (colour : ℕ). channelIn channel (channelsOf colour)) is))
-          (gamma-hit (entry .bypass) (listed .no-bypass) channel word)
+      -- the gamma word of the colour of the layer that shows
+      gamma-of : (layer : Layer) → layerHere memory screen entry x ≡ layer
+          → Among (gamma channel number) (reads memory (throughGamma (skipsGamma layer entry) (colourIn memory screen entry x layer)))
+      gamma-of layer is =
+          Memᴰ·cast (ap (gamma channel) (listed .hit ∙ ap (λ (l : Layer). channelIn channel (channelsOf (colourIn memory screen entry x l))) is))
+          (gamma-hit (skipsGamma layer entry) (sym (ap (λ (l : Layer). skipsGamma l entry) is) ∙ listed .through) channel (colourIn memory screen entry x layer))
 
-      -- where overlay shows
-      gamma-by-overlay : eqb (overlayHere memory screen entry x) 0 ≡ false → Among (gamma channel number) (reads memory (underCursor screen entry x))
-      unfolding overlaid
-      gamma-by-overlay shows = over (eqb-false _ _ shows) (List·Memᴰ·tail (gamma-of (rw shows refl)))
+      -- where the cursor shows
+      gamma-by-cursor : cursorHere memory screen entry x ≢ 0 → Among (gamma channel number) (reads memory (colourOf screen entry x))
+      unfolding cursorShown
+      gamma-by-cursor shows = shown shows (List·Memᴰ·tail (gamma-of ofCursor (cursor-here memory screen entry x shows)))
 
-      -- where the normal colour does
-      gamma-by-sample : eqb (overlayHere memory screen entry x) 0 ≡ true → Among (gamma channel number) (reads memory (underCursor screen entry x))
-      unfolding plainAt
-      gamma-by-sample clear =
-          plain (eqb-true _ _ clear) (value-read memory (normalAt (screen .depth) entry x) _ (inr (gamma-of (rw clear refl))))
+      module _ (transparent : cursorHere memory screen entry x ≡ 0) where
+        -- where overlay does
+        gamma-by-overlay : overlayHere memory screen entry x ≢ 0 → Among (gamma channel number) (reads memory (underCursor screen entry x))
+        unfolding overlaid
+        gamma-by-overlay shows = over shows (List·Memᴰ·tail (gamma-of ofOverlay (overlay-here memory screen entry x transparent shows)))
+
+        -- where the normal colour does
+        gamma-by-sample : overlayHere memory screen entry x ≡ 0 → Among (gamma channel number) (reads memory (underCursor screen entry x))
+        unfolding plainAt
+        gamma-by-sample clear =
+            plain clear (value-read memory (normalAt (screen .depth) entry x) _ (inr (gamma-of ofNormal (normal-here memory screen entry x transparent clear))))
 
       -- the gamma word hit
       gamma-listed : Among (gamma channel number) (reads memory (colourOf screen entry x))
-      gamma-listed = under (listed .transparent) (by (eqb (overlayHere memory screen entry x) 0) refl)
+      gamma-listed = by (eqb (cursorHere memory screen entry x) 0) (eqb (overlayHere memory screen entry x) 0) refl refl
         where
-          by : (clear : Bool) → eqb (overlayHere memory screen entry x) 0 ≡ clear → Among (gamma channel number) (reads memory (underCursor screen entry x))
-          by true e = gamma-by-sample e
-          by false e = gamma-by-overlay e
+          by : (transparent clear : Bool) → eqb (cursorHere memory screen entry x) 0 ≡ transparent → eqb (overlayHere memory screen entry x) 0 ≡ clear
+              → Among (gamma channel number) (reads memory (colourOf screen entry x))
+          by false clear e f = gamma-by-cursor (eqb-false _ _ e)
+          by true false e f = under (eqb-true _ _ e) (gamma-by-overlay (eqb-true _ _ e) (eqb-false _ _ f))
+          by true true e f = under (eqb-true _ _ e) (gamma-by-sample (eqb-true _ _ e) (eqb-true _ _ f))
 
     -- every cell that is listed of a pixel's colour is read
     pub colour-listed : (cell : PixelCell) → ColourListed memory screen entry x cell → Among cell (reads memory (colourOf screen entry x))

@@ -17,7 +17,7 @@ use Rattle.pixels.specs.Cells.{PixelCell}
 use Rattle.pixels.specs.Colour.{colourOf}
 use Rattle.setup.specs.Faults.{lineFaults}
 use Rattle.setup.specs.declared.setup.Setup.{Setup}
-use Rattle.line.specs.Screen.{screenOf}
+use Rattle.line.specs.Screen.{screenIn}
 use Rattle.line.specs.Cells.{Cell, ofTable, windowEntry, ofColour, Lent, view}
 use Rattle.line.specs.Line.{entriesOf, inColours, coloursOf, lineRule, lineOf}
 use Rattle.rests.specs.TableList.{MetListed}
@@ -57,15 +57,15 @@ module _ (setup : Setup) (lent : Lent) where
     unfolding entriesOf coloursOf
     colours-read {cell} here =
         let two = both (view lent) (starting setup lent) passing e in
-        let at = read-each-of (view lent) (λ entry x. inColours (colourOf (screenOf (setup .controls) (setup .y)) entry x)) (entering setup lent (two .first)) (setup .controls .width) 0 (two .next) here in
-        let inner = read-within (λ (refusal : ⊥). absurd refusal) ofColour (view lent) (colourOf (screenOf (setup .controls) (setup .y)) (at .value) (at .position)) (at .here) in
+        let at = read-each-of (view lent) (λ entry x. inColours (colourOf (screenIn setup) entry x)) (entering setup lent (two .first)) (setup .controls .width) 0 (two .next) here in
+        let inner = read-within (λ (refusal : ⊥). absurd refusal) ofColour (view lent) (colourOf (screenIn setup) (at .value) (at .position)) (at .here) in
         subst (DrawnListed setup lent) (sym (inner .is))
         (record {
           pixel = at .position;
           active = omega (arith, at .high);
           entry = at .value;
           has = run-ok (view lent) (starting setup lent) _ (two .found) ∙ at .found;
-          listed = colour-read (λ (c : PixelCell). view lent (ofColour c)) (screenOf (setup .controls) (setup .y)) (at .value) (at .position) (inner .here);
+          listed = colour-read (λ (c : PixelCell). view lent (ofColour c)) (screenIn setup) (at .value) (at .position) (inner .here);
         })
 
   -- what is met is listed of a drawn line

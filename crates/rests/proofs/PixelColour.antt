@@ -16,7 +16,7 @@ use Rattle.chip.specs.declared.state.State.{State}
 use Rattle.setup.specs.Controls.{controlsOf}
 use Rattle.setup.specs.Faults.{lineFaults}
 use Rattle.setup.specs.declared.setup.Setup.{Setup}
-use Rattle.line.specs.Screen.{screenOf}
+use Rattle.line.specs.Screen.{screenIn}
 use Rattle.line.specs.Cells.{ofColour, Lent, view}
 use Rattle.line.specs.Line.{entriesOf, inColours, coloursOf, lineOf}
 use Rattle.line.specs.Drawn.{setupOf, drawn}
@@ -35,7 +35,7 @@ module _ (setup : Setup) (lent : Lent) where
       → (x : ℕ) → x < setup .controls .width → HasColour setup lent x (getD colours x 0)
   unfolding entriesOf coloursOf
   passes-colour {colours} e x active =
-      let screen = screenOf (setup .controls) (setup .y) in
+      let screen = screenIn setup in
       let two = both (view lent) (entriesOf setup) (coloursOf setup) e in
       let first = both (view lent) (starting setup lent) (passing setup lent) (two .found) in
       let at =
@@ -63,7 +63,7 @@ module _ (setup : Setup) (lent : Lent) where
   one-colour {x} first second =
       let same : first .entry ≡ second .entry = cc (first .has, second .has) in
       first .is
-      ∙ ap (λ (entry : Entry). value (λ cell. view lent (ofColour cell)) (colourOf (screenOf (setup .controls) (setup .y)) entry x)) same
+      ∙ ap (λ (entry : Entry). value (λ cell. view lent (ofColour cell)) (colourOf (screenIn setup) entry x)) same
       ∙ sym (second .is)
 
 -- the same of the whole call: where it answers that the line is drawn, each word of the active width is the colour of its pixel

@@ -7,11 +7,11 @@ use mathlib.Core.Logic.{⊎-elim}
 use Rattle.rules.specs.Rule.{Rule, ok, refused, run, reads, get, _>>=_}
 use Rattle.rules.specs.Faults.{Numbered, placeIn}
 use Rattle.rules.proofs.Cases.{impossible}
+use Rattle.rules.proofs.Asks.{asks-reads}
 use Rattle.refusals.specs.Refusal.{numbered}
 use Rattle.refusals.specs.declared.Refusal.the-variants.{NoLineEntry, UndefinedEntry}
 use Rattle.colour.specs.Entry.{decoded}
 use Rattle.colour.specs.declared.entry.Decoded.{Decoded}
-use Rattle.colour.specs.declared.entry.Decoded.the-variants.{Defined, Undefined}
 use Rattle.colour.specs.declared.entry.Entry.{Entry}
 use Rattle.windows.specs.Table.{TableCell, tableView}
 use Rattle.windows.specs.Ids.{lineEntries, endOf, idCell, lineEntryOf, idOf}
@@ -19,6 +19,7 @@ use Rattle.setup.specs.declared.setup.Setup.{Setup}
 use Rattle.line.specs.Cells.{Cell, ofTable, windowEntry, Lent, view}
 use Rattle.line.specs.Line.{definedAt, entryAt}
 use Rattle.line.proofs.Entries.{run-in-table}
+use Rattle.line.proofs.Defined.{asks-nothing, refuses-undefined}
 use Rattle.rests.specs.TableList.{LineEntry}
 use Rattle.rests.proofs.Parts.{Among, Becomes, both, Either, at-first, at-second, either, Read, by-first, by-second, read-either, either-read, read-within, within-read}
 use Rattle.rests.proofs.LookUps.{LookedUpCell, an-end, its-cell, look-up-read, read-end, read-cell, refusal-named, refused-look-up-read, read-any-end}
@@ -90,8 +91,7 @@ module _ (setup : Setup) (lent : Lent) (start : ℕ) where
 
     -- what a window entry says asks for nothing more
     said-read : (said : Decoded) {cell : Cell} → Among cell (reads (view lent) (definedAt x said)) → ⊥
-    said-read (Defined entry) here = List·Memᴰ·not-nil here
-    said-read Undefined here = List·Memᴰ·not-nil here
+    said-read said {cell} here = asks-reads (λ _. ⊥) (view lent) (definedAt x said) (asks-nothing _ x said) cell here
 
     -- a pixel that has an ID reads these cells, whatever comes of its window entry
     pub pixel-read : {id : ℕ} → run (view lent) (identifying setup lent start x) ≡ ok id → {cell : Cell}
@@ -139,8 +139,7 @@ module _ (setup : Setup) (lent : Lent) (start : ℕ) where
 
     -- an undefined entry is 9
     said-refusal : (said : Decoded) {refusal : Numbered} → run (view lent) (definedAt x said) ≡ refused refusal → refusal ≡ numbered (UndefinedEntry x)
-    said-refusal (Defined entry) e = impossible (cc)
-    said-refusal Undefined e = cc
+    said-refusal said e = refuses-undefined (view lent) x said e .1
 
     -- there is no other reason
     pub pixel-refused : {refusal : Numbered} → run (view lent) (entering x) ≡ refused refusal → RefusedPixel refusal

@@ -1,7 +1,7 @@
 -- The cells of a pixel's colour under its window entry, as the paper lists them.
 use Prim.Native.Nat.{ℕ, _+_}
 use mathlib.Core.Path.{_≡_}
-use mathlib.Core.Bool.{true, false, cond}
+use mathlib.Core.Bool.{Bool, true, false, cond}
 use mathlib.Core.Logic.{_⊎_, _≢_}
 use lib.Dec.{eqb}
 use Rattle.rules.specs.Rule.{value}
@@ -12,7 +12,7 @@ use Rattle.colour.specs.declared.entry.Entry.{Entry}
 use Rattle.colour.specs.declared.entry.Shown.the-variants.{MapEntry}
 use Rattle.pixels.specs.Cells.{channelIn, PixelCell, glyph, cursorColour, overlayByte, sample, mapEntry, gamma}
 use Rattle.pixels.specs.Cursor.{glyphPlace, inGlyph, cursorAt}
-use Rattle.pixels.specs.Colour.{normalAt, overlayCounts, overlayAt}
+use Rattle.pixels.specs.Colour.{Layer, ofCursor, ofOverlay, ofNormal, skipsGamma, normalAt, overlayColours, overlayCounts, overlayAt}
 use Rattle.pixels.specs.declared.Screen.{Screen}
 
 module _ (memory : PixelCell → ℕ) (screen : Screen) (entry : Entry) (x : ℕ) where
@@ -28,9 +28,23 @@ module _ (memory : PixelCell → ℕ) (screen : Screen) (entry : Entry) (x : ℕ
   abbrev pub usedCell : PixelCell
   usedCell = sample (screen .depth) x (entry .low) (widthsOf (entry .format) .bits)
 
-  -- where the cursor is transparent, the colour before gamma: overlay's, or the normal one
+  -- the layer that shows: the cursor, else overlay, else the normal one
+  abbrev pub layerHere : Layer
+  layerHere = cond (eqb cursorHere 0) (cond (eqb overlayHere 0) ofNormal ofOverlay) ofCursor
+
+  -- the colour of a layer before gamma
+  abbrev pub colourIn : Layer → ℕ
+  colourIn ofCursor = memory (cursorColour cursorHere)
+  colourIn ofOverlay = memory (mapEntry (overlayColours + overlayHere))
+  colourIn ofNormal = value memory (normalAt (screen .depth) entry x)
+
+  -- the colour before gamma, of the layer that shows
   abbrev pub beforeGamma : ℕ
-  beforeGamma = cond (eqb overlayHere 0) (value memory (normalAt (screen .depth) entry x)) (memory (mapEntry (4352 + overlayHere)))
+  beforeGamma = colourIn layerHere
+
+  -- whether it skips gamma
+  abbrev pub skipsHere : Bool
+  skipsHere = skipsGamma layerHere entry
 
   -- the pixel's own cell of the glyph
   pub record GlyphListed (row column : ℕ) : Type 0 where
@@ -60,12 +74,11 @@ module _ (memory : PixelCell → ℕ) (screen : Screen) (entry : Entry) (x : ℕ
   -- the map entry that overlay or the sample hits
   pub record MapListed (number : ℕ) : Type 0 where
     pub transparent : cursorHere ≡ 0
-    pub hit : ((overlayHere ≢ 0) × (number ≡ 4352 + overlayHere)) ⊎ ((overlayHere ≡ 0) × (shownOf entry (memory usedCell) ≡ MapEntry number))
+    pub hit : ((overlayHere ≢ 0) × (number ≡ overlayColours + overlayHere)) ⊎ ((overlayHere ≡ 0) × (shownOf entry (memory usedCell) ≡ MapEntry number))
 
-  -- the gamma word that a channel hits, of which that channel's byte counts
+  -- where the colour goes through gamma, the gamma word that a channel of it hits, of which that channel's byte counts
   pub record GammaListed (indexed number : ℕ) : Type 0 where
-    pub transparent : cursorHere ≡ 0
-    pub no-bypass : entry .bypass ≡ false
+    pub through : skipsHere ≡ false
     pub hit : number ≡ indexed
 
   -- the cells of one pixel's colour

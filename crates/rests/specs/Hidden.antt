@@ -17,7 +17,7 @@ use Rattle.pixels.specs.Cells.{Channel, PixelCell, glyph, cursorColour, mapEntr
 use Rattle.pixels.specs.Colour.{overlayCounts}
 use Rattle.pixels.specs.declared.Screen.{Screen}
 use Rattle.setup.specs.declared.setup.Setup.{Setup}
-use Rattle.line.specs.Screen.{screenOf}
+use Rattle.line.specs.Screen.{screenIn}
 use Rattle.line.specs.Cells.{Lent, lentOf}
 use Rattle.rests.specs.TableList.{HasEntry, WindowListed}
 use Rattle.rests.specs.ColourList.{cursorHere, overlayHere}
@@ -42,7 +42,7 @@ withOverlay lent overlay = lentOf (lent .store) (lent .table) (lent .normal) ove
 module _ (setup : Setup) (lent : Lent) where
   -- what the control words say of every pixel of the line
   abbrev screen : Screen
-  screen = screenOf (setup .controls) (setup .y)
+  screen = screenIn setup
 
   -- what the cells of colours hold
   abbrev held : PixelCell → ℕ

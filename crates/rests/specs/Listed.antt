@@ -11,7 +11,7 @@ use Rattle.windows.specs.Frame.{frameEntries}
 use Rattle.windows.specs.Ids.{lineEntries, entryByte}
 use Rattle.pixels.specs.Cells.{PixelCell}
 use Rattle.setup.specs.declared.setup.Setup.{Setup}
-use Rattle.line.specs.Screen.{screenOf}
+use Rattle.line.specs.Screen.{screenIn}
 use Rattle.line.specs.Cells.{Cell, ofTable, windowEntry, ofColour, Lent, view}
 use Rattle.line.specs.Line.{lineOf}
 use Rattle.rests.specs.TableList.{StartsAt, HasEntry, MetListed}
@@ -26,7 +26,7 @@ module _ (setup : Setup) (lent : Lent) where
     pub active : pixel < setup .controls .width
     pub entry : Entry
     pub has : HasEntry setup lent pixel entry
-    pub listed : ColourListed (λ (c : PixelCell). view lent (ofColour c)) (screenOf (setup .controls) (setup .y)) entry pixel cell
+    pub listed : ColourListed (λ (c : PixelCell). view lent (ofColour c)) (screenIn setup) entry pixel cell
 
   -- all active pixels are met, and each has a colour
   abbrev pub DrawnListed : Cell → Type 0

@@ -6,7 +6,7 @@ use Rattle.colour.specs.declared.entry.Entry.{Entry}
 use Rattle.pixels.specs.Cells.{pixelView}
 use Rattle.pixels.specs.Colour.{colourOf}
 use Rattle.setup.specs.declared.setup.Setup.{Setup}
-use Rattle.line.specs.Screen.{screenOf}
+use Rattle.line.specs.Screen.{screenIn}
 use Rattle.line.specs.Cells.{Lent}
 use Rattle.rests.specs.TableList.{HasEntry}
 
@@ -14,4 +14,4 @@ use Rattle.rests.specs.TableList.{HasEntry}
 pub record HasColour (setup : Setup) (lent : Lent) (x colour : ℕ) : Type 0 where
   pub entry : Entry
   pub has : HasEntry setup lent x entry
-  pub is : colour ≡ value (pixelView (lent .store) (lent .normal) (lent .overlay)) (colourOf (screenOf (setup .controls) (setup .y)) entry x)
+  pub is : colour ≡ value (pixelView (lent .store) (lent .normal) (lent .overlay)) (colourOf (screenIn setup) entry x)

@@ -1,6 +1,8 @@
 -- `pixels::Screen::colour_of` meets its contract: the cursor, or what is under it. Assumes nothing.
+use mathlib.Core.Path.{refl}
 use borrow.Author.Needs.{needs}
 use Rattle.pixels.specs.Cells.{pixelView}
+use Rattle.pixels.proofs.Gamma.{gamma-skipped}
 use Rattle.pixels.proofs.LayersCases.{colour-under, colour-of-cursor}
 use Rattle.pixels.proofs.Screen.colour_of.Statement.{statement}
 use Rattle.pixels.proofs.Screen.colour_of.Tie as tie
@@ -28,10 +30,12 @@ stored-requires c κs = search needs
 returns-2 : tie.Need-returns-2
 returns-2 c =
     let a = c .before .before .before .before .before .before .args in
-    colour-of-cursor (pixelView (a .store .now) (a .normal .now) (a .overlay .now)) (a .self) (a .entry) (a .x)
+    let memory = pixelView (a .store .now) (a .normal .now) (a .overlay .now) in
+    colour-of-cursor memory (a .self) (a .entry) (a .x)
     (c .before .before .cursor-at .ensures .0 (a .normal .now) (a .overlay .now))
     (c .before .if1 .left)
     (c .stored .ensures)
+    (gamma-skipped memory _ refl)
 
 pub colour-of-spec : {M : Type 1} → statement M
 colour-of-spec =
