@@ -17,6 +17,7 @@ use Rattle.registers.specs.declared.Register.{Register}
 use Rattle.registers.specs.declared.Named.{Named}
 use Rattle.registers.specs.declared.Named.the-variants.{Is, Nothing}
 use Rattle.queue.specs.Queue.{full, pushed}
+use Rattle.queue.specs.Waiting.{writeTo}
 use Rattle.chip.specs.State.{withWord, withQueue}
 use Rattle.chip.specs.Call.{Chip, callFaults}
 use Rattle.chip.specs.declared.write.Answer.{Answer}
@@ -48,7 +49,7 @@ writeFaults chip address value = callFaults (chip .0) (length (chip .1)) ++ addr
 abbrev pub putIn : Chip → Block → Register → ℕ → Chip
 putIn chip Control register value = (withWord (chip .0) (register .word) value, chip .1)
 putIn chip WindowEntries register value = (chip .0, set (chip .1) (storeIndex register) value)
-putIn chip ColourMap register value = (withQueue (chip .0) (pushed (chip .0 .queue) (record { entry = register .word; colour = value })), chip .1)
+putIn chip ColourMap register value = (withQueue (chip .0) (pushed (chip .0 .queue) (writeTo register value)), chip .1)
 putIn chip GammaMap register value = (chip .0, set (chip .1) (storeIndex register) value)
 putIn chip CursorGlyph register value = (chip .0, set (chip .1) (storeIndex register) value)
 putIn chip CursorColours register value = (chip .0, set (chip .1) (storeIndex register) value)

@@ -11,6 +11,22 @@ use Rattle.colour.specs.declared.entry.Entry.{Entry}
 use Rattle.colour.specs.declared.entry.Decoded.{Decoded}
 use Rattle.colour.specs.declared.entry.Decoded.the-variants.{Defined, Undefined}
 
+-- its buffer
+abbrev pub bufferOf : ℕ → ℕ
+bufferOf entry = field entry 0 0
+
+-- its format's number
+abbrev pub formatOf : ℕ → ℕ
+formatOf entry = field entry 3 1
+
+-- its bank
+abbrev pub bankOf : ℕ → ℕ
+bankOf entry = field entry 8 4
+
+-- the bits that are zero in a defined entry
+abbrev pub spareOf : ℕ → ℕ
+spareOf entry = field entry 12 11
+
 -- the lowest bit of a buffer: buffer 0 is the low half, 1 the high
 abbrev pub lowOf : ℕ → ℕ → ℕ
 lowOf depth buffer = cond (eqb buffer 0) 0 (depth / 2)
@@ -20,8 +36,8 @@ abbrev pub said : ℕ → ℕ → Format → Entry
 said entry depth format =
     record {
       format = format;
-      low = lowOf depth (field entry 0 0);
-      bank = field entry 8 4;
+      low = lowOf depth (bufferOf entry);
+      bank = bankOf entry;
       bypass = eqb (field entry 9 9) 1;
       overlay = eqb (field entry 10 10) 1;
     }
@@ -34,11 +50,11 @@ withFormat (Is format) next = next format
 -- an entry is tested for its spare bits, its format, its depth, its buffer and its bank, in this order
 unfoldable pub decoded : ℕ → ℕ → Decoded
 decoded entry depth =
-    cond (not (eqb (field entry 12 11) 0)) Undefined
-    (withFormat (numbered (field entry 3 1)) (λ format.
+    cond (not (eqb (spareOf entry) 0)) Undefined
+    (withFormat (numbered (formatOf entry)) (λ format.
     cond (not (hasDepth (partAt format depth))) Undefined
-    (cond (not (hasBuffer (partAt format depth) (field entry 0 0))) Undefined
-    (cond (not (hasBank format (field entry 8 4))) Undefined
+    (cond (not (hasBuffer (partAt format depth) (bufferOf entry))) Undefined
+    (cond (not (hasBank format (bankOf entry))) Undefined
     (Defined (said entry depth format))))))
 
 -- whether what the decoder answers is a defined entry

@@ -7,11 +7,10 @@ use lib.ListN.{length}
 use Rattle.rules.specs.Rule.{Rule, Outcome, ok, run, reads, value}
 use Rattle.rules.specs.Lists.{values}
 use Rattle.rules.specs.Faults.{Numbered}
-use Rattle.words.specs.Field.{field}
 use Rattle.timing.specs.Window.{inWindow}
 use Rattle.formats.specs.Channel.{widened}
 use Rattle.formats.specs.Table.{widthsOf}
-use Rattle.colour.specs.Entry.{decoded}
+use Rattle.colour.specs.Entry.{bankOf, decoded}
 use Rattle.colour.specs.Shown.{sampleOf, shownOf}
 use Rattle.colour.specs.declared.entry.Entry.{Entry}
 use Rattle.colour.specs.declared.entry.Decoded.the-variants.{Defined, Undefined}
@@ -56,7 +55,7 @@ DefinedAt depth word bank = (entry : Entry) × (decoded word depth ≡ Defined e
 
 -- and one, with this bank, is not
 abbrev pub UndefinedAt : ℕ → ℕ → ℕ → Type 0
-UndefinedAt depth word bank = (decoded word depth ≡ Undefined) × (field word 8 4 ≡ bank)
+UndefinedAt depth word bank = (decoded word depth ≡ Undefined) × (bankOf word ≡ bank)
 
 -- the window entry with this buffer, format and bank, and no other bit
 abbrev pub entryWith : ℕ → ℕ → ℕ → ℕ

@@ -12,6 +12,7 @@ use Rattle.registers.specs.Access.{waits}
 use Rattle.registers.specs.declared.Named.{Named}
 use Rattle.registers.specs.declared.Named.the-variants.{Is, Nothing}
 use Rattle.queue.specs.Queue.{oldest}
+use Rattle.queue.specs.Waiting.{writeTo}
 use Rattle.queue.specs.declared.Waiting.{Waiting}
 use Rattle.queue.specs.declared.Queue.{Queue}
 use Rattle.chip.specs.Call.{Chip}
@@ -24,7 +25,7 @@ use Rattle.history.specs.Calls.{Call, write, read, dot, dots, line, afte
 -- a write to a register of the colour map is a colour write
 abbrev pub colourWrite : Named → ℕ → List Waiting
 colourWrite Nothing value = []
-colourWrite (Is register) value = cond (waits register) (record { entry = register .word; colour = value } ∷ []) []
+colourWrite (Is register) value = cond (waits register) (writeTo register value ∷ []) []
 
 -- where the write was done, its colour write
 abbrev pub acceptedBy : Outcome Numbered (Unit {0}) → List Waiting → List Waiting

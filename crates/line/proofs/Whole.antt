@@ -18,7 +18,7 @@ use Rattle.pixels.specs.Cells.{pixelView}
 use Rattle.pixels.specs.Colour.{colourOf}
 use Rattle.setup.specs.Faults.{lineFaults}
 use Rattle.setup.specs.declared.setup.Setup.{Setup}
-use Rattle.line.specs.Screen.{screenOf}
+use Rattle.line.specs.Screen.{screenIn}
 use Rattle.line.specs.Cells.{Cell, ofColour, Lent, lentOf, view}
 use Rattle.line.specs.Line.{startOf, entryAt, entriesOf, inColours, coloursOf, lineRule}
 use Rattle.line.specs.Inner.{Drawable, colourBy, colourAt}
@@ -74,7 +74,7 @@ unfolding coloursOf colourAt
 line-drawn setup store table normal overlay start long drawable =
     let lent = lentOf store table normal overlay in
     let memory = view lent in
-    let screen = screenOf (setup .controls) (setup .y) in
+    let screen = screenIn setup in
     let found : ℕ → Entry = λ p. entryOf (run memory (entryAt (setup .controls) (length table) start p)) in
     line-coloured setup lent (drawable .fit) {start = start} (rw (sym long) (drawable .starts normal overlay)) {entries = values found (setup .controls .width) 0}
     (rw (sym long) (entries-run (setup .controls) store table start (drawable .entries) normal overlay))

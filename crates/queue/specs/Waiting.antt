@@ -13,6 +13,10 @@ use Rattle.queue.specs.declared.Waiting.{Waiting}
 abbrev pub registerOf : Waiting → Register
 registerOf write = record { block = ColourMap; word = write .entry }
 
+-- the write of a value that waits for a register
+abbrev pub writeTo : Register → ℕ → Waiting
+writeTo register value = record { entry = register .word; colour = value }
+
 -- there is such an entry, and the write has no bits but those that the entry keeps
 unfoldable pub goodWrite : Waiting → Bool
 goodWrite write = ltb (write .entry) (count ColourMap) && fits (registerOf write) (write .colour)

@@ -5,7 +5,7 @@ use mathlib.Core.List.{List, List·Memᴰ}
 use lib.ListN.{length}
 use Rattle.chip.specs.declared.state.State.{State}
 use Rattle.setup.specs.declared.setup.Setup.{Setup}
-use Rattle.line.specs.Cells.{Cell, Lent}
+use Rattle.line.specs.Cells.{Cell, Lent, view}
 use Rattle.line.specs.Line.{lineOf}
 use Rattle.line.specs.Drawn.{setupOf, drawn}
 use Rattle.rests.specs.Calls.{SameLengths, AgreeOnReads}
@@ -28,6 +28,11 @@ module _ (setup : Setup) (lent other : Lent) (agree : AgreeOnList setup lent oth
   same-list cell listed =
       reads-listed setup other cell
       (subst (List·Memᴰ cell) (line-reads setup lent other on-reads) (listed-reads setup lent cell listed))
+
+-- any longer list will do as well: the paper's own, which has of the entries that a search passes over more than their ends, is one
+pub line-rests-on-longer : (setup : Setup) (lent other : Lent) (Longer : Cell → Type 0) → ((cell : Cell) → Listed setup lent cell → Longer cell)
+    → ((cell : Cell) → Longer cell → view lent cell ≡ view other cell) → lineOf setup lent ≡ lineOf setup other
+line-rests-on-longer setup lent other Longer holds agree = line-rests-on-list setup lent other (λ cell listed. agree cell (holds cell listed))
 
 -- the same over states, in the contract's own words
 pub drawn-rests-on-list : (state : State) (y : ℕ) (lent other : Lent) → SameLengths lent other → (output : List ℕ)
