@@ -1,6 +1,5 @@
-// The records of a session file: what stands at a place of lent bytes, and the reader that holds bytes and place.
+// The records of a session file: what stands at a place of lent bytes.
 mod faults;
 mod parts;
-pub mod reader;
 pub mod record;
 mod tags;

@@ -58,7 +58,7 @@ pub fn step(
         table: held,
         last,
     };
-    let found = records::reader::read(bytes, place, context);
+    let found = reader::read(bytes, place, context);
     match found {
         Found::Is { record, length } => {
             let start = place + 3;

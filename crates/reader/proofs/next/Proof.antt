@@ -1,4 +1,4 @@
--- `records::reader::next` meets its contract: a walk of its MIR, by hand. The struct is taken apart, and `record_at` is called on its slice, its place and the context. All that the proof knows of `record_at` is that it meets its contract.
+-- `reader::next` meets its contract: a walk of its MIR, by hand. The struct is taken apart, and `record_at` is called on its slice, its place and the context. All that the proof knows of `record_at` is that it meets its contract.
 -- What the parameters own goes to the callee, beside the lifetime's token, which comes back; at exit nothing is had of them. Assumes nothing.
 use Prim.Native.Nat.{_<_, _^_}
 use mathlib.Core.Path.{_≡_, refl}
@@ -42,24 +42,24 @@ use denote.Exit.{yes}
 use denote.Triple.Clauses.{ensured, lasts}
 use lib.Dec.{T as Holds}
 use lib.ListN.{length, drop as dropped}
 use Rattle.records.specs.Found.{found}
-use Rattle.records.specs.declared.reader.Reader.{Reader}
+use Rattle.reader.specs.declared.Reader.{Reader}
 use Rattle.records.specs.declared.record.Context.{Context}
 use Rattle.records.specs.declared.record.Found.{Found}
-use Rattle.records.proofs.reader.Reader as T
-use Rattle.records.proofs.reader.Reader.Laws as T′
+use Rattle.reader.proofs.Reader as T
+use Rattle.reader.proofs.Reader.Laws as T′
 use Rattle.records.proofs.record.Context as N
 use Rattle.records.proofs.record.Context.Laws as N′
 use Rattle.records.proofs.record.Found as S
 use Rattle.records.proofs.record.Found.Laws as S′
 use Rattle.records.proofs.record.record_at as record-at
 use Rattle.records.proofs.record.record_at.Symbol as record-at-def
 use Rattle.records.proofs.record.record_at.Symbol.{name as #record-at}
 use Rattle.records.proofs.record.record_at.Met as record-at-thm
-use Rattle.records.proofs.reader.next.Key.{name as #next}
-use Rattle.records.proofs.reader.next as next
-use Rattle.records.proofs.reader.next.Code as code
-use Rattle.records.proofs.reader.next.Statement as stated
+use Rattle.reader.proofs.next.Key.{name as #next}
+use Rattle.reader.proofs.next as next
+use Rattle.reader.proofs.next.Code as code
+use Rattle.reader.proofs.next.Statement as stated
 
 -- the types of the struct and of the context, over the signature's lifetimes
 abbrev B : Lfts 1 → RattleType

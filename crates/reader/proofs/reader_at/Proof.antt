@@ -1,4 +1,4 @@
--- `records::reader::reader_at` meets its contract: a walk of its MIR, by hand. A `Reader` is made of the slice and the place passed, in the result's local.
+-- `reader::reader_at` meets its contract: a walk of its MIR, by hand. A `Reader` is made of the slice and the place passed, in the result's local.
 -- What the slice owns goes into the result, beside the facts of the place; at exit nothing is had of the parameters. Assumes nothing.
 use Prim.Native.Nat.{ℕ, _<_, _^_}
 use mathlib.Core.Path.{refl}
@@ -33,13 +33,13 @@ use denote.Triple.Table.{entered}
 use denote.Triple.Walked.{says, Stays, stay-dropped, walkOf, goes-dropped, Walks, ends-at, walked, walk-meets}
 use denote.Exit.{yes}
 use lib.ListN.{length}
-use Rattle.records.specs.declared.reader.Reader.{Reader}
-use Rattle.records.proofs.reader.Reader as T
-use Rattle.records.proofs.reader.Reader.Laws as T′
-use Rattle.records.proofs.reader.reader_at.Key.{name as #reader-at}
-use Rattle.records.proofs.reader.reader_at as reader-at
-use Rattle.records.proofs.reader.reader_at.Code as code
-use Rattle.records.proofs.reader.reader_at.Statement as stated
+use Rattle.reader.specs.declared.Reader.{Reader}
+use Rattle.reader.proofs.Reader as T
+use Rattle.reader.proofs.Reader.Laws as T′
+use Rattle.reader.proofs.reader_at.Key.{name as #reader-at}
+use Rattle.reader.proofs.reader_at as reader-at
+use Rattle.reader.proofs.reader_at.Code as code
+use Rattle.reader.proofs.reader_at.Statement as stated
 
 -- the slice and the place, as the signature has them
 abbrev slice : Slot 1

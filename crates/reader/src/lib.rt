@@ -1,10 +1,10 @@
 // The reader: bytes that are lent, with a place in them.
 ghost use mathlib.Core.Path.{_≡_};
 ghost use lib.ListN.{drop};
 ghost use Rattle.records.specs.Found.{found};
-use crate::record::Context;
-use crate::record::Found;
-use crate::record::record_at;
+use records::record::Context;
+use records::record::Found;
+use records::record::record_at;
 
 // Lent bytes, and a place among them.
 pub struct Reader<'a> {

@@ -1,4 +1,4 @@
--- `records::reader::read` meets its contract: a walk of its MIR, by hand. The `Reader` that `reader_at` returns is held in a local and passed to `next`. All that the proof knows of the two is that each meets its contract.
+-- `reader::read` meets its contract: a walk of its MIR, by hand. The `Reader` that `reader_at` returns is held in a local and passed to `next`. All that the proof knows of the two is that each meets its contract.
 -- In a local of a body MIR erases the lifetime of the struct's type, so the value is shown to have the type at `erased`. At exit nothing is had of the parameters. Assumes nothing.
 use Prim.Native.Nat.{ℕ, _<_, _^_}
 use mathlib.Core.Path.{_≡_, refl, ap, _∙_}
@@ -38,28 +38,28 @@ use denote.Exit.{yes}
 use denote.Triple.Clauses.{ensured, lasts}
 use lib.Dec.{T as Holds}
 use lib.ListN.{length, drop as dropped}
 use Rattle.records.specs.Found.{found}
-use Rattle.records.specs.declared.reader.Reader.{Reader}
+use Rattle.reader.specs.declared.Reader.{Reader}
 use Rattle.records.specs.declared.record.Context.{Context}
 use Rattle.records.specs.declared.record.Found.{Found}
-use Rattle.records.proofs.reader.Reader as T
-use Rattle.records.proofs.reader.Reader.Laws as T′
+use Rattle.reader.proofs.Reader as T
+use Rattle.reader.proofs.Reader.Laws as T′
 use Rattle.records.proofs.record.Context as N
 use Rattle.records.proofs.record.Context.Laws as N′
 use Rattle.records.proofs.record.Found as S
 use Rattle.records.proofs.record.Found.Laws as S′
-use Rattle.records.proofs.reader.reader_at as reader-at
-use Rattle.records.proofs.reader.reader_at.Symbol as reader-at-def
-use Rattle.records.proofs.reader.reader_at.Symbol.{name as #reader-at}
-use Rattle.records.proofs.reader.reader_at.Met as reader-at-thm
-use Rattle.records.proofs.reader.next as next
-use Rattle.records.proofs.reader.next.Symbol as next-def
-use Rattle.records.proofs.reader.next.Symbol.{name as #next}
-use Rattle.records.proofs.reader.next.Met as next-thm
-use Rattle.records.proofs.reader.read.Key.{name as #read}
-use Rattle.records.proofs.reader.read as read
-use Rattle.records.proofs.reader.read.Code as code
-use Rattle.records.proofs.reader.read.Statement as stated
+use Rattle.reader.proofs.reader_at as reader-at
+use Rattle.reader.proofs.reader_at.Symbol as reader-at-def
+use Rattle.reader.proofs.reader_at.Symbol.{name as #reader-at}
+use Rattle.reader.proofs.reader_at.Met as reader-at-thm
+use Rattle.reader.proofs.next as next
+use Rattle.reader.proofs.next.Symbol as next-def
+use Rattle.reader.proofs.next.Symbol.{name as #next}
+use Rattle.reader.proofs.next.Met as next-thm
+use Rattle.reader.proofs.read.Key.{name as #read}
+use Rattle.reader.proofs.read as read
+use Rattle.reader.proofs.read.Code as code
+use Rattle.reader.proofs.read.Statement as stated
 
 -- the struct's type, over the signature's lifetimes
 abbrev B : Lfts 1 → RattleType
@@ -202,5 +202,5 @@ read-spec 𝓤 H 𝓜 𝓖 𝓡 =
     entered 𝓤 H (tripleOf 𝓤 H (𝓖 .A) read.signature (read.spec 𝓤 H (𝓖 .A) (𝓜 .mem) (𝓡 .run)))
     (tables 𝓤 H 𝓜 𝓡 code.env .C) (tables 𝓤 H 𝓜 𝓡 code.env .Λ) #read code.function (code.unfolded 𝓤 H 𝓜 𝓡)
     (read-meets 𝓤 H (𝓖 .A) (givenOf 𝓤 H 𝓜 𝓖) (𝓜 .mem) (𝓡 .run) (tablesOf 𝓤 H 𝓜 (tables 𝓤 H 𝓜 𝓡 code.env))
-    (cited 𝓤 H (ReaderAt 𝓤 H (𝓖 .A) (𝓜 .mem) (𝓡 .run)) 𝓜 𝓡 code.env #reader-at reader-at-def.routine code.calls-records·reader·reader-at (reader-at-thm.met 𝓤 H 𝓜 𝓖 𝓡))
-    (cited 𝓤 H (Next 𝓤 H (𝓖 .A) (𝓜 .mem) (𝓡 .run)) 𝓜 𝓡 code.env #next next-def.routine code.calls-records·reader·next (next-thm.met 𝓤 H 𝓜 𝓖 𝓡)))
+    (cited 𝓤 H (ReaderAt 𝓤 H (𝓖 .A) (𝓜 .mem) (𝓡 .run)) 𝓜 𝓡 code.env #reader-at reader-at-def.routine code.calls-reader·reader-at (reader-at-thm.met 𝓤 H 𝓜 𝓖 𝓡))
+    (cited 𝓤 H (Next 𝓤 H (𝓖 .A) (𝓜 .mem) (𝓡 .run)) 𝓜 𝓡 code.env #next next-def.routine code.calls-reader·next (next-thm.met 𝓤 H 𝓜 𝓖 𝓡)))

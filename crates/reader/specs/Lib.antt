@@ -1,0 +1,1 @@
+-- This crate has no definitions of its own: what a reader finds is said in records.
