@@ -12,18 +12,16 @@ use Rattle.words.specs.Field.{bits}
 use Rattle.words.specs.Channels.{channelsOf}
 use Rattle.formats.specs.Table.{widthsOf}
 use Rattle.colour.specs.Shown.{sampleOf}
-use Rattle.registers.specs.Store.{stored}
 use Rattle.registers.specs.declared.Block.the-variants.{WindowEntries, ColourMap, GammaMap, CursorGlyph, CursorColours}
 use Rattle.windows.specs.Table.{TableCell}
 use Rattle.pixels.specs.Cells.{channelIn, PixelCell, glyph, cursorColour, overlayByte, sample, mapEntry, gamma, pixelWord}
 use Rattle.setup.specs.declared.setup.Setup.{Setup}
 use Rattle.line.specs.Cells.{ofTable, windowEntry, ofColour, Lent, lentOf, view}
 use Rattle.line.specs.Line.{lineOf}
-use Rattle.rests.specs.Calls.{AgreeOnReads}
 use Rattle.rests.specs.Listed.{PixelListed, Listed, AgreeOnList}
-use Rattle.rests.specs.Hidden.{withStore, withTable, withNormal, withOverlay, SameChosen, SameHalves, SameUncovered, SameSeen, SameOverlaid, SameFields, SameCounting, SameKept}
-use Rattle.rests.proofs.Demand.{line-rests}
+use Rattle.rests.specs.Hidden.{withStore, withTable, withNormal, withOverlay, SameChosen, SameHalves, SameUncovered, SameSeen, SameOverlaid, SameFields, SameCounting, SameMet}
 use Rattle.rests.proofs.Before.{refused-line-reads}
+use Rattle.rests.proofs.AllListed.{listed-reads}
 use Rattle.rests.proofs.ByList.{line-rests-on-list}
 use Rattle.rests.proofs.Active.{window-active, colour-active, table-on}
 
@@ -109,7 +107,7 @@ module _ (setup : Setup) (lent : Lent) where
   -- ---- the store
 
   module _ (store : List ℕ) where
-    -- other windows that are not on the line, and other colours that no pixel shows
+    -- other windows that are not on the line, other colours that no pixel shows, other bits that are not kept
     pub other-unused : SameCounting setup lent store → lineOf setup lent ≡ lineOf setup (withStore lent store)
     other-unused same =
         by-colours (withStore lent store) (λ cell listed. refl)
@@ -129,16 +127,12 @@ module _ (setup : Setup) (lent : Lent) where
         by (gamma channel number) listed =
             ap (λ (word : ℕ). channelIn channel (channelsOf word)) (same (record { block = GammaMap; word = number }) (channel, listed))
 
-    -- other bits that are not kept
-    pub other-spare-bits : SameKept setup lent store → lineOf setup lent ≡ lineOf setup (withStore lent store)
-    other-spare-bits same = other-unused (λ register counts. same register)
-
   -- ---- the table
 
   module _ (table : List ℕ) where
-    -- other bits that are ignored
+    -- other entries that the line doesn't read, and other bits that are ignored
     pub other-ignored-bits : SameFields setup lent table → lineOf setup lent ≡ lineOf setup (withTable lent table)
-    other-ignored-bits same = by-colours (withTable lent table) (λ cell listed. same cell) (λ id listed. refl) (λ cell listed. refl)
+    other-ignored-bits same = by-colours (withTable lent table) same (λ id listed. refl) (λ cell listed. refl)
 
     -- any table where window IDs are off
     pub other-table : setup .controls .ids ≡ false → lineOf setup lent ≡ lineOf setup (withTable lent table)
@@ -147,13 +141,12 @@ module _ (setup : Setup) (lent : Lent) where
 
   -- ---- a line that is refused
 
-  -- any rows, colours, gamma words and cursor words: only the table and window entries count
-  pub refused-rests : {refusal : Numbered} → lineOf setup lent ≡ refused refusal → (store normal overlay : List ℕ)
-      → ((id : ℕ) → stored (lent .store) (record { block = WindowEntries; word = id }) ≡ stored store (record { block = WindowEntries; word = id }))
+  -- any rows, colours, gamma words and cursor words: only the table and the windows that the line meets count
+  pub refused-rests : {refusal : Numbered} → lineOf setup lent ≡ refused refusal → (store normal overlay : List ℕ) → SameMet setup lent store
       → lineOf setup (lentOf store (lent .table) normal overlay) ≡ refused refusal
-  refused-rests e store normal overlay same = sym (line-rests setup lent (lentOf store (lent .table) normal overlay) by) ∙ e
+  refused-rests e store normal overlay same = sym (line-rests-on-list setup lent (lentOf store (lent .table) normal overlay) by) ∙ e
     where
-      by : AgreeOnReads setup lent (lentOf store (lent .table) normal overlay)
-      by (ofTable cell) here = refl
-      by (windowEntry id) here = same id
-      by (ofColour cell) here = absurd (refused-line-reads setup lent e (ofColour cell) here)
+      by : AgreeOnList setup lent (lentOf store (lent .table) normal overlay)
+      by (ofTable cell) listed = refl
+      by (windowEntry id) listed = same id listed
+      by (ofColour cell) listed = absurd (refused-line-reads setup lent e (ofColour cell) (listed-reads setup lent (ofColour cell) listed))

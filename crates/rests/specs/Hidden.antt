@@ -18,10 +18,10 @@ use Rattle.pixels.specs.Colour.{overlayCounts}
 use Rattle.pixels.specs.declared.Screen.{Screen}
 use Rattle.setup.specs.declared.setup.Setup.{Setup}
 use Rattle.line.specs.Screen.{screenIn}
-use Rattle.line.specs.Cells.{Lent, lentOf}
+use Rattle.line.specs.Cells.{ofTable, windowEntry, Lent, lentOf}
 use Rattle.rests.specs.TableList.{HasEntry, WindowListed}
 use Rattle.rests.specs.ColourList.{cursorHere, overlayHere}
-use Rattle.rests.specs.Listed.{PixelListed}
+use Rattle.rests.specs.Listed.{PixelListed, Listed}
 
 -- the same with another store
 abbrev pub withStore : Lent → List ℕ → Lent
@@ -38,6 +38,10 @@ withNormal lent normal = lentOf (lent .store) (lent .table) normal (lent .overla
 -- with another overlay row
 abbrev pub withOverlay : Lent → List ℕ → Lent
 withOverlay lent overlay = lentOf (lent .store) (lent .table) (lent .normal) overlay
+
+-- the register of a window entry
+abbrev windowOf : ℕ → Register
+windowOf id = record { block = WindowEntries; word = id }
 
 module _ (setup : Setup) (lent : Lent) where
   -- what the control words say of every pixel of the line
@@ -92,9 +96,9 @@ module _ (setup : Setup) (lent : Lent) where
 
   -- ---- the table
 
-  -- other bits of the table that are ignored: the fields of every entry are the same
+  -- other entries that the line doesn't read, and other bits that are ignored: the fields that it reads are the same
   abbrev pub SameFields : List ℕ → Type 0
-  SameFields table = (cell : TableCell) → tableView (lent .table) cell ≡ tableView table cell
+  SameFields table = (cell : TableCell) → Listed setup lent (ofTable cell) → tableView (lent .table) cell ≡ tableView table cell
 
   -- ---- the store
 
@@ -107,10 +111,10 @@ module _ (setup : Setup) (lent : Lent) where
   Counts CursorGlyph word = (row : ℕ) × ((column : ℕ) × ((word ≡ 2 * row + column / 16) × PixelListed setup lent (glyph row column)))
   Counts CursorColours word = PixelListed setup lent (cursorColour (suc word))
 
-  -- other windows that are not on the line, and other colours that no pixel shows: the kept bits of the words that count are the same
+  -- other windows that are not on the line, other colours that no pixel shows, and other bits that are not kept: of the words that count the kept bits are the same
   abbrev pub SameCounting : List ℕ → Type 0
   SameCounting store = (register : Register) → Counts (register .block) (register .word) → stored (lent .store) register ≡ stored store register
 
-  -- other bits that are not kept: the kept bits of every word are the same
-  abbrev pub SameKept : List ℕ → Type 0
-  SameKept store = (register : Register) → stored (lent .store) register ≡ stored store register
+  -- the same of the windows that a line meets before it is refused
+  abbrev pub SameMet : List ℕ → Type 0
+  SameMet store = (id : ℕ) → Listed setup lent (windowEntry id) → stored (lent .store) (windowOf id) ≡ stored store (windowOf id)
