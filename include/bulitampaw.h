@@ -187,7 +187,8 @@ bulitampaw_drawn bulitampaw_line(bulitampaw_state state, uint32_t y, const uint3
     const uint8_t *table, size_t table_length, const uint8_t *normal, size_t normal_length,
     const uint8_t *overlay, size_t overlay_length, uint32_t *output, size_t output_length);
 
-/* A session before its first record: a fresh chip, table and rows empty. Its store starts all zero; the other rooms may hold anything. */
+/* A session before its first record: a fresh chip, table and rows empty. Its store and its output start all zero; table and rows may hold
+   anything. */
 bulitampaw_session bulitampaw_fresh_session(void);
 
 /* Runs the record at a place of a session file's bytes, on the lent store, table, rows and output, and puts its text, without a closing
@@ -217,7 +218,7 @@ typedef struct {
     size_t table_length, normal_length, overlay_length;
 } bulitampaw_planes;
 
-/* All that a step is lent to change. The store starts all zero. */
+/* All that a step is lent to change. Store and output start all zero. */
 typedef struct {
     uint32_t store[BULITAMPAW_STORE_WORDS];
     uint8_t table[BULITAMPAW_TABLE_BYTES];

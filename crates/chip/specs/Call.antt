@@ -1,4 +1,4 @@
--- What every call looks at first: the state's rule, then the store's length.
+-- What writes, reads and dots look at first: the state's rule, then the store's length.
 use Prim.Native.Nat.{ℕ}
 use mathlib.Core.Bool.{not}
 use mathlib.Core.List.{List, [], _∷_}

@@ -28,7 +28,7 @@ abbrev pub told : Answer → Outcome Numbered (Unit {0})
 told Done = ok tt
 told (Refused refusal) = refused (numbered refusal)
 
--- what a write of a value to what its address names is refused for, at the address, by whether the queue is full: 1, 2, 3, 4
+-- why a write is refused, by what its address names and whether the queue is full: 1 where it names nothing, else 2, 3, 4, all at the address
 abbrev pub registerFaults : Bool → Named → ℕ → ℕ → List Fault
 registerFaults full Nothing place value = fault (NoRegister place) true ∷ []
 registerFaults full (Is register) place value =

@@ -31,7 +31,7 @@ spareOf entry = field entry 12 11
 abbrev pub lowOf : ℕ → ℕ → ℕ
 lowOf depth buffer = cond (eqb buffer 0) 0 (depth / 2)
 
--- what a defined entry of this format says
+-- what a defined entry of this format says; of its buffer the lowest bit
 abbrev pub said : ℕ → ℕ → Format → Entry
 said entry depth format =
     record {

@@ -51,7 +51,7 @@ accepted chip (call ∷ calls) = accepts chip call ++ accepted (after chip call)
 abbrev pub front : Queue → List Waiting
 front queue = cond (ltb 0 (queue .waiting)) (oldest queue ∷ []) []
 
--- for a dot that reported blank, what it applies: the oldest write, if something waits; for any other dot nothing at all
+-- for a dot that reported blank one list, of what it applies: the oldest write, or nothing where nothing waits; for any other dot no list
 abbrev pub blankedBy : Outcome Numbered Signals → Queue → List (List Waiting)
 blankedBy (ok signals) queue = cond (signals .blank) (front queue ∷ []) []
 blankedBy (refused refusal) queue = []

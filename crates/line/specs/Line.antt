@@ -29,7 +29,7 @@ use Rattle.line.specs.Cells.{Cell, ofTable, windowEntry, ofColour, Lent,
 abbrev pub inTable : {A : Type 0} → Rule Numbered TableCell A → Rule Numbered Cell A
 inTable = within (λ refusal. refusal) ofTable
 
--- where the line's table starts; where window IDs are off 0, which nothing looks at
+-- where the line's table starts; where window IDs are off 0, which `idAt` then doesn't look at
 unfoldable pub startOf : Controls → ℕ → ℕ → Rule Numbered Cell ℕ
 startOf controls tableBytes y = cond (controls .ids) (inTable (lineTableOf tableBytes y)) (done 0)
 

@@ -10,9 +10,13 @@ use Rattle.listing.specs.Text.{Listed, ok, at, line, refused, shown, tex
 use Rattle.listing.specs.declared.render.Rendered.{Rendered}
 use Rattle.listing.specs.declared.render.Rendered.the-variants.{To, NoRoom}
 
--- 32 bytes, and 7 more for each colour shown
+-- 32 bytes, and 7 more for each of so many colours
+abbrev pub roomOf : ℕ → ℕ
+roomOf colours = 32 + 7 * colours
+
+-- so for the colours that an entry shows
 abbrev pub roomFor : Listed → List ℕ → ℕ
-roomFor listed output = 32 + 7 * length (shown listed output)
+roomFor listed output = roomOf (length (shown listed output))
 
 -- lent bytes with some of them replaced, from a place on
 abbrev pub placed : List ℕ → ℕ → List ℕ → List ℕ

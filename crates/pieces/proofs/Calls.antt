@@ -2,7 +2,7 @@
 use Prim.Native.Nat.{ℕ, _+_}
 use mathlib.Core.Path.{_≡_, refl, sym, ap, subst, _∙_}
 use mathlib.Core.Bool.{Bool, false}
-use mathlib.Core.List.{List, [], _++_}
+use mathlib.Core.List.{List, _++_}
 use lib.ListN.{length, take, drop}
 use lib.Seq.{take-at, drop-drop}
 use Rattle.rules.specs.Rule.{Outcome, ok}
@@ -104,6 +104,7 @@ pub first-held : {rooms : Rooms} → Zeroed rooms → heldIn (sessionOf empty) r
 first-held zeroed = rw (zeroed .store-zero, zeroed .output-zero) refl
 
 -- from zeroed rooms, calls on a new session list the file's listing, however it is cut
-pub calls-list : {rooms : Rooms} {pieces : List (List ℕ)} {written : List ℕ} → Zeroed rooms
-    → Calls (sessionOf empty) rooms [] 0 pieces written → written ≡ listing (joined pieces)
-calls-list {rooms} {pieces} {written} zeroed calls = cut-lists (subst (λ (held : Held). Steps held [] pieces written) (first-held zeroed) (calls-steps calls))
+pub calls-list : {rooms : Rooms} {bytes : List ℕ} {pieces : List (List ℕ)} {written : List ℕ} → Zeroed rooms
+    → Calls (sessionOf empty) rooms bytes 0 pieces written → written ≡ listing (bytes ++ joined pieces)
+calls-list {rooms} {bytes} {pieces} {written} zeroed calls =
+    cut-lists (subst (λ (held : Held). Steps held bytes pieces written) (first-held zeroed) (calls-steps calls))

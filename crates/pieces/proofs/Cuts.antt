@@ -74,8 +74,8 @@ steps-list (ends {held = held} {unread = unread} {pieces = pieces} e) left few =
 steps-list (stops {held = held} {unread = unread} {pieces = pieces} e) left few =
     sym (listing-stops left held (unread ++ joined pieces) (ap (λ (s : (Held × ℕ) × Came). s .1) (step-of-whole held unread pieces (λ more. impossible cc)) ∙ e))
 
--- however a file is cut, its steps list its listing
-pub cut-lists : {pieces : List (List ℕ)} {text : List ℕ} → Steps empty [] pieces text → text ≡ listing (joined pieces)
+-- however a file is cut, its steps list its listing, from the bytes that are lent at first
+pub cut-lists : {first : List ℕ} {pieces : List (List ℕ)} {text : List ℕ} → Steps empty first pieces text → text ≡ listing (first ++ joined pieces)
 unfolding listing
 cut-lists steps = steps-list steps 1000000 refl
 

@@ -71,10 +71,10 @@ module _ (session : Session) (rooms : Rooms) (lent bytes : List ℕ) (place : �
       (ap (λ (all : Left × Outcome Numbered Came). stepLeft all lent)
       (sym (last-holds ((session, place), rooms) (afterStep session rooms bytes place last) (stepFaults session rooms) (textFault (length lent)) (lt-ltb (length lent) textRoom short))))
 
-  -- with a text long enough it is the session's step
-  step-long : textRoom ≤ length lent → stepLeft (sessionStep session rooms bytes place last) lent ≡ stepInNumbers session rooms lent bytes place last
+  -- with a text long enough it is the session's step, with its text in front
+  pub step-of-session : textRoom ≤ length lent → stepLeft (sessionStep session rooms bytes place last) lent ≡ stepInNumbers session rooms lent bytes place last
   unfolding stepInNumbers sessionStep
-  step-long long =
+  step-of-session long =
       ap (λ (all : Left × Outcome Numbered Came). stepLeft all lent)
       (sym (last-clear ((session, place), rooms) (afterStep session rooms bytes place last) (stepFaults session rooms) (textFault (length lent)) (le-ltb (length lent) textRoom long)))
 
@@ -98,4 +98,4 @@ module _ (session : Session) (rooms : Rooms) (lent bytes : List ℕ) (place : �
       ∙ text-put (left .0 .1 .output) lent long (left .1)
       (λ came e. omega (arith, same, output-room (ap (λ (all : Left × Outcome Numbered Came). all .1) (sym stepped) ∙ e))))
       ∙ ap (λ (all : Left × Outcome Numbered Came). stepLeft all lent) stepped
-      ∙ step-long long
+      ∙ step-of-session long

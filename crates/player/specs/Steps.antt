@@ -1,5 +1,5 @@
 -- What C is answered by a session's step, and the text that it puts.
-use Prim.Native.Nat.{ℕ, _+_, _*_}
+use Prim.Native.Nat.{ℕ, _+_}
 use mathlib.Core.Bool.{Bool}
 use mathlib.Core.List.{List, [], _∷_, _++_}
 use lib.Dec.{ltb}
@@ -10,6 +10,7 @@ use Rattle.plain.specs.Numbers.{nothing, refusedBy}
 use Rattle.plain.specs.declared.Refused.{Refused}
 use Rattle.listing.specs.Text.{Listed}
 use Rattle.listing.specs.Text as entry
+use Rattle.listing.specs.Room.{roomOf}
 use Rattle.answers.specs.Came.{Came, listed, ended, waits, stopped, textOf}
 use Rattle.rooms.specs.Rooms.{longestLine}
 use Rattle.session.specs.Lent.{Rooms, laid}
@@ -20,7 +21,7 @@ use Rattle.player.specs.declared.steps.Stepped.{Stepped}
 
 -- the bytes in which every entry's text has room: 32, and 7 for each pixel of the longest line
 abbrev pub textRoom : ℕ
-textRoom = 32 + 7 * longestLine
+textRoom = roomOf longestLine
 
 -- a text too short is 5 at place 6
 abbrev pub shortText : Numbered

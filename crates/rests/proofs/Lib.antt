@@ -19,3 +19,4 @@ pub mod Hidden
 pub mod Reasons
 pub mod Answers
 pub mod Below
+pub mod Off

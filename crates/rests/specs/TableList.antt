@@ -1,4 +1,4 @@
--- Table and window entries that a line reads, as the paper lists them: of the pixels before `met`, which are all where the line is drawn.
+-- Table and window entries that a line reads, as the paper lists them, when it has come past `met` pixels; a drawn line has come past all.
 use Prim.Native.Nat.{ℕ, suc, _≤_, _<_}
 use mathlib.Core.Path.{_≡_}
 use mathlib.Core.Bool.{true}
