@@ -75,6 +75,14 @@ enum {
     BULITAMPAW_RECORD_BYTES = 65538          /* the longest record of a session file: a buffer of this length holds any */
 };
 
+/* The fields of words.
+   Control word 0 has switches: overlay (bit 0), window IDs (1), cursor (2), cross-hair (3), depth 32 in place of 16 (4). Each other has a field in bits 11..0 and one in
+   27..16, of word 7 in 10..0 and 26..16: 1 total width and total lines, each less 1; on and off of 2 horizontal sync, 3 vertical sync, 4 horizontal blank, 5 vertical blank;
+   6 x and y of the active origin; 7 active width and height, each less 1; 8 x and y of the cursor; 10, read only, x and y of the beam.
+   A window entry has the buffer in bit 0, the format in 3..1, the bank in 8..4, bypass of gamma in 9, overlay allowed in 10, and 0 in 12..11.
+   A frame entry of the ID table (32 bits) has its last line in 26..16, a block of 512 bytes in 14..8 and an offset of 2 bytes in 7..0: there its line table starts. A line entry
+   (16 bits) has its last pixel in 15..5 and a window ID in 4..0. Colours have red in 23..16, green in 15..8, blue in 7..0. */
+
 /* Where the beam is. */
 typedef struct {
     uint32_t x, y;
@@ -174,7 +182,7 @@ bulitampaw_read_back bulitampaw_read(bulitampaw_state state, const uint32_t *sto
 bulitampaw_dotted bulitampaw_dot(bulitampaw_state state, uint32_t *store, size_t store_length);
 
 /* So many dots, one after the other; of none nothing is reported. Refused by 11 or 5.
-   The time goes by lines and not by dots, except where colour writes wait for a blank window that the beam never meets: there it is some nanoseconds a dot. */
+   The time goes by lines and not by dots, some nanoseconds a line, and where nothing waits by neither. */
 bulitampaw_dotted bulitampaw_dots(bulitampaw_state state, uint32_t *store, size_t store_length, uint32_t count);
 
 /* Draws line y: the first words of the output, as many as the active width, become its colours, and the words past them stay.

@@ -28,7 +28,7 @@ empty = record { waiting = 0; slots = replicate depth zeroSlot }
 abbrev pub waitingIn : Queue → List Waiting
 waitingIn queue = take (queue .waiting) (queue .slots)
 
--- room is 64 less waiting
+-- room is 64 less waiting, and 0 where more wait than that
 abbrev pub room : Queue → ℕ
 room queue = depth - queue .waiting
 
