@@ -5,7 +5,7 @@ ghost use Rattle.formats.specs.Channel.{widened, channel, colourOf};
 use words::Rgb;
 
 // A channel of a few bits as 8 bits: its bits repeated from the top.
-pub fn widen(value: u32, width: u32) -> u8
+pub(crate) fn widen(value: u32, width: u32) -> u8
     requires { ⌜ (1 ≤ width) × (width ≤ 8) × (value < 2 ^ width) ⌝ }
     ensures { λ r. ⌜ r ≡ widened value width ⌝ }
 {
@@ -17,7 +17,7 @@ pub fn widen(value: u32, width: u32) -> u8
 }
 
 // A channel of a sample: width bits from bit low up, widened.
-pub fn channel(sample: u32, low: u32, width: u32) -> u8
+pub(crate) fn channel(sample: u32, low: u32, width: u32) -> u8
     requires { ⌜ (low < 32) × (1 ≤ width) × (width ≤ 8) ⌝ }
     ensures { λ r. ⌜ r ≡ channel sample low width ⌝ }
 {
@@ -25,7 +25,7 @@ pub fn channel(sample: u32, low: u32, width: u32) -> u8
 }
 
 // The colour of a sample whose channels have these widths, red lowest.
-pub fn colour(sample: u32, red: u32, green: u32, blue: u32) -> Rgb
+pub(crate) fn colour(sample: u32, red: u32, green: u32, blue: u32) -> Rgb
     requires { ⌜ (1 ≤ red) × (red ≤ 8) × (1 ≤ green) × (green ≤ 8) × (1 ≤ blue) × (blue ≤ 8) ⌝ }
     ensures { λ r. ⌜ r ≡ colourOf sample red green blue ⌝ }
 {
