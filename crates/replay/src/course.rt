@@ -1,5 +1,6 @@
 // How far a file is run.
 ghost use mathlib.Core.Path.{_≡_};
+ghost use Rattle.replay.specs.Run.{begun, withFrom, withPut, ended, goesOn};
 
 // Whether the run goes on, is over, or breaks off because no more can be read or written.
 pub enum Going {
@@ -21,7 +22,7 @@ pub struct Course {
 impl Course {
     // Before the first byte is read.
     pub(crate) fn start() -> Self
-        ensures { λ r. ⌜ r .to ≡ 0 ⌝ }
+        ensures { λ r. ⌜ r ≡ begun ⌝ }
     {
         Self {
             from: 0,
@@ -34,7 +35,7 @@ impl Course {
 
     // With the next record at a place.
     pub(crate) fn with_from(mut self, from: usize) -> Self
-        ensures { λ r. ⌜ r .to ≡ self .to ⌝ }
+        ensures { λ r. ⌜ r ≡ withFrom self from ⌝ }
     {
         self.from = from;
         self
@@ -42,7 +43,7 @@ impl Course {
 
     // With text up to a place.
     pub(crate) fn with_put(mut self, put: usize) -> Self
-        ensures { λ r. ⌜ r .to ≡ self .to ⌝ }
+        ensures { λ r. ⌜ r ≡ withPut self put ⌝ }
     {
         self.put = put;
         self
@@ -50,7 +51,7 @@ impl Course {
 
     // With the run ended.
     pub(crate) fn ending(self, going: Going) -> Self
-        ensures { λ r. ⌜ r .to ≡ self .to ⌝ }
+        ensures { λ r. ⌜ r ≡ ended self going ⌝ }
     {
         Self {
             from: self.from,
@@ -62,7 +63,9 @@ impl Course {
     }
 
     // Whether the run goes on.
-    pub(crate) fn goes_on(self) -> bool {
+    pub(crate) fn goes_on(self) -> bool
+        ensures { λ r. ⌜ r ≡ goesOn (self .going) ⌝ }
+    {
         let going = self.going;
         match going {
             Going::On => true,

@@ -2,6 +2,7 @@
 ghost use Prim.Native.Nat.{_≤_};
 ghost use mathlib.Core.Path.{_≡_};
 ghost use lib.ListN.{length};
+ghost use Rattle.replay.specs.Run.{movedBy};
 use crate::course::Course;
 use crate::course::Going;
 use crate::input::read_on;
@@ -26,7 +27,7 @@ fn listed(answer: Answer, output: &[u32], text: &mut [u8], course: Course) -> Co
 
 // On at the next record, or over with this answer.
 fn moved(answer: Answer, place: usize, course: Course) -> Course
-    ensures { λ r. ⌜ r .to ≡ course .to ⌝ }
+    ensures { λ r. ⌜ r ≡ movedBy answer place course ⌝ }
 {
     let next = course.with_from(place);
     if answer.over() {

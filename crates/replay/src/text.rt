@@ -1,5 +1,8 @@
 // Text of the listing, which waits until there is much of it.
+ghost use mathlib.Core.Bool.{true};
 ghost use mathlib.Core.Path.{_≡_};
+ghost use Rattle.listing.specs.Text.{said};
+ghost use Rattle.replay.specs.Run.{putBehind, hasRoom};
 use crate::course::Course;
 use crate::course::Going;
 use libc::STDOUT_FILENO;
@@ -27,7 +30,7 @@ fn put_first(entry: Entry, output: &[u32], text: &mut [u8], course: Course) -> C
 
 // An entry's text goes behind the text that waits, which is written out first where it leaves no room.
 pub(crate) fn put_entry(entry: Entry, output: &[u32], text: &mut [u8], course: Course) -> Course
-    ensures { λ r. ⌜ r .to ≡ course .to ⌝ }
+    ensures { λ r. ⌜ (r .to ≡ course .to) × (hasRoom (said entry) (now (output .entry)) (now (text .entry)) course ≡ true → (r, now (text .exit)) ≡ putBehind (said entry) (now (output .entry)) (now (text .entry)) course) ⌝ }
 {
     let put = course.put;
     match render(entry, output, text, put) {

@@ -1,10 +1,11 @@
 -- `replay::run::steps` is safe and ends: the rooms keep their lengths, the bytes that wait stand within the input, and the measure is the number of
 -- turns left. Assumes nothing.
 use Prim.Native.Nat.{_≤_}
-use mathlib.Core.Path.{_≡_, _∙_}
+use mathlib.Core.Path.{_≡_, ap, _∙_}
 use native.Mathlib.Omega.{arith}
 use borrow.Author.Needs.{needs}
 use lib.ListN.{length}
+use Rattle.replay.specs.declared.course.Course.{Course}
 use Rattle.replay.proofs.run.steps.Statement.{statement}
 use Rattle.replay.proofs.run.steps.Tie as tie
 
@@ -29,7 +30,7 @@ start-requires : tie.Need-start-requires Inv-loop μ-loop
 start-requires c κs = search needs
 
 loop-holds : tie.Need-loop-holds Inv-loop μ-loop
-loop-holds c = search needs
+loop-holds c = let none = ap (λ (course : Course). course .to) (c .start .ensures) in search needs
 
 goes-on-requires : tie.Need-goes-on-requires Inv-loop μ-loop
 goes-on-requires c κs = search needs

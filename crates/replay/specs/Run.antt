@@ -1,0 +1,50 @@
+-- How far a file is run.
+use Prim.Native.Nat.{ℕ, _+_}
+use mathlib.Core.Bool.{Bool, true, false, cond}
+use mathlib.Core.List.{List}
+use lib.Dec.{leb}
+use lib.ListN.{length}
+use Rattle.listing.specs.Text.{Listed, text}
+use Rattle.listing.specs.Room.{roomFor, placed}
+use Rattle.answers.specs.Answers.{over}
+use Rattle.answers.specs.declared.Answer.{Answer}
+use Rattle.replay.specs.declared.course.Going.{Going}
+use Rattle.replay.specs.declared.course.Going.the-variants.{On, Over, Unread, Unwritten}
+use Rattle.replay.specs.declared.course.Course.{Course}
+
+-- before the first byte is read
+abbrev pub begun : Course
+begun = record { from = 0; to = 0; last = false; put = 0; going = On }
+
+-- with the next record at a place
+abbrev pub withFrom : Course → ℕ → Course
+withFrom course from = record { from = from; to = course .to; last = course .last; put = course .put; going = course .going }
+
+-- with text up to a place
+abbrev pub withPut : Course → ℕ → Course
+withPut course put = record { from = course .from; to = course .to; last = course .last; put = put; going = course .going }
+
+-- with the run ended so
+abbrev pub ended : Course → Going → Course
+ended course going = record { from = course .from; to = course .to; last = course .last; put = course .put; going = going }
+
+-- the run goes on
+abbrev pub goesOn : Going → Bool
+goesOn On = true
+goesOn Over = false
+goesOn Unread = false
+goesOn Unwritten = false
+
+-- on at the next record, or over with an answer
+abbrev pub movedBy : Answer → ℕ → Course → Course
+movedBy answer place course = cond (over answer) (ended (withFrom course place) Over) (withFrom course place)
+
+-- an entry's text behind the text that waits
+abbrev pub putBehind : Listed → List ℕ → List ℕ → Course → Course × List ℕ
+putBehind entry output lent course =
+    let bytes = text entry output in
+    (withPut course (course .put + length bytes), placed lent (course .put) bytes)
+
+-- there is room for it
+abbrev pub hasRoom : Listed → List ℕ → List ℕ → Course → Bool
+hasRoom entry output lent course = leb (course .put + roomFor entry output) (length lent)
