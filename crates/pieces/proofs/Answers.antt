@@ -2,7 +2,7 @@
 use Prim.Native.Nat.{ℕ}
 use mathlib.Core.Path.{_≡_, refl, ap}
 use mathlib.Core.List.{List, [], _∷_}
-use Rattle.rules.specs.Rule.{Outcome, ok, refused}
+use Rattle.rules.specs.Rule.{Outcome, refused}
 use Rattle.rules.specs.Faults.{Numbered, Fault}
 use Rattle.refusals.specs.Refusal.{numbered}
 use Rattle.refusals.specs.declared.Refusal.the-variants.{StoreLength, TableLength, NormalLength, OverlayLength, OutputLength, BadState}

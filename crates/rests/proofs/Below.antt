@@ -1,15 +1,12 @@
 -- The words of a drawn line have 24 bits: the top byte of each is 0. Assumes nothing.
 use Prim.Native.Nat.{ℕ, zero, suc, _^_, _<_}
-use mathlib.Core.Path.{_≡_, refl}
+use mathlib.Core.Path.{_≡_}
 use mathlib.Core.List.{List, [], _∷_}
-use native.Mathlib.Omega.{arith}
 use lib.Dec.{lit<}
-use lib.ListN.{length, getD, drop, List·getD-append}
-use Rattle.rules.specs.Rule.{Rule, Outcome, ok, refused, run, value}
+use lib.ListN.{length, getD}
+use Rattle.rules.specs.Rule.{Rule, ok, run, value}
 use Rattle.rules.specs.Each.{eachOf}
-use Rattle.rules.specs.Faults.{Numbered}
 use Rattle.rules.specs.Checked.{checked}
-use Rattle.rules.proofs.Cases.{impossible}
 use Rattle.rules.proofs.Value.{run-within-value}
 use Rattle.colour.specs.declared.entry.Entry.{Entry}
 use Rattle.pixels.specs.Cells.{pixelView}
@@ -24,7 +21,7 @@ use Rattle.line.specs.Cells.{ofColour, Lent, view}
 use Rattle.line.specs.Line.{inColours, entriesOf, coloursOf, lineRule, lineOf}
 use Rattle.line.specs.Drawn.{setupOf, drawn}
 use Rattle.rests.proofs.Parts.{both}
-use Rattle.rests.proofs.Outputs.{colours-length}
+use Rattle.rests.proofs.Outputs.{drawn-line, word-drawn}
 
 module _ {R Q B : Type 0} (memory : Q → ℕ) (rule : B → ℕ → Rule R Q ℕ) (bound : ℕ) where
   -- a second pass whose rules all answer numbers below a bound
@@ -61,11 +58,7 @@ module _ (setup : Setup) (lent : Lent) where
 -- every word of the active width that a drawn line leaves in the output
 pub output-below : (state : State) (y : ℕ) (lent : Lent) (output : List ℕ) → drawn state y lent output .1 ≡ ok tt
     → (i : ℕ) → i < controlsOf (state .control) .width → getD (drawn state y lent output .0 .1) i 0 < 2 ^ 24
-unfolding drawn setupOf
-output-below state y lent output is-drawn i below = by (lineOf (setupOf state y lent (length output)) lent) refl
-  where
-    by : (line : Outcome Numbered (List ℕ)) → lineOf (setupOf state y lent (length output)) lent ≡ line → getD (drawn state y lent output .0 .1) i 0 < 2 ^ 24
-    by (ok colours) e =
-        let inside : i < length colours = omega (arith, colours-length (setupOf state y lent (length output)) lent e) in
-        rw (e, List·getD-append colours (drop (controlsOf (state .control) .width) output) 0 i inside) (words-below (setupOf state y lent (length output)) lent e i)
-    by (refused refusal) e = impossible (cc (e, is-drawn))
+unfolding setupOf
+output-below state y lent output is-drawn i below =
+    let line = drawn-line state y lent output is-drawn in
+    rw (word-drawn state y lent output (line .1) i below) (words-below (setupOf state y lent (length output)) lent (line .1) i)

@@ -1,7 +1,7 @@
 -- An overlay row where overlay is off, and a table where window IDs are off, may be any, of any length. Assumes nothing.
 use Prim.Native.Nat.{ℕ}
 use mathlib.Core.Path.{_≡_, refl, ap, _∙_}
-use mathlib.Core.Bool.{Bool, false}
+use mathlib.Core.Bool.{false}
 use mathlib.Core.List.{List}
 use lib.ListN.{length}
 use Rattle.rules.specs.Rule.{Rule, Outcome, run}
@@ -9,7 +9,6 @@ use Rattle.rules.specs.Faults.{Numbered}
 use Rattle.chip.specs.declared.state.State.{State}
 use Rattle.setup.specs.Controls.{controlsOf}
 use Rattle.setup.specs.Faults.{tableTooLong, overlayWrong, lengthFaults, lineFaults}
-use Rattle.setup.specs.declared.setup.Setup.{Setup}
 use Rattle.line.specs.Cells.{Cell, Lent, view}
 use Rattle.line.specs.Line.{startOf, idAt, entryAt, entriesOf, coloursOf, lineRule, lineOf}
 use Rattle.line.specs.Drawn.{setupOf, said, after, drawn}
