@@ -3,11 +3,11 @@ use Prim.Native.Nat.{ℕ}
 use mathlib.Core.Path.{_≡_, refl}
 use mathlib.Core.Bool.{true, false, true≢false, false≢true}
 use lib.ListN.{set}
-use Rattle.registers.specs.Store.{inStore, storeIndex, stored}
-use Rattle.registers.specs.Access.{waitsIn}
-use Rattle.registers.specs.declared.Block.{Block}
-use Rattle.registers.specs.declared.Block.the-variants.{Control, WindowEntries, ColourMap, GammaMap, CursorGlyph, CursorColours}
-use Rattle.registers.specs.declared.Register.{Register}
+use Rattle.chip_registers.specs.Store.{inStore, storeIndex, stored}
+use Rattle.chip_registers.specs.Access.{waitsIn}
+use Rattle.chip_registers.specs.declared.Block.{Block}
+use Rattle.chip_registers.specs.declared.Block.the-variants.{Control, WindowEntries, ColourMap, GammaMap, CursorGlyph, CursorColours}
+use Rattle.chip_registers.specs.declared.Register.{Register}
 use Rattle.chip.specs.Call.{Chip}
 use Rattle.chip.specs.Write.{putIn}
 use Rattle.chip.specs.Read.{shownIn}

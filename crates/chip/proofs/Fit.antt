@@ -10,7 +10,7 @@ use Rattle.rules.specs.Faults.{Numbered, Fault, unless}
 use Rattle.rules.specs.Checked.{verdict}
 use Rattle.rules.proofs.Faults.{none-holds, first-holds}
 use Rattle.rules.proofs.Checked.{verdict-clear, first-verdict, clear-verdict}
-use Rattle.registers.specs.Store.{storeLength}
+use Rattle.chip_registers.specs.Store.{storeLength}
 use Rattle.chip.specs.State.{goodState}
 use Rattle.chip.specs.Call.{Chip, callFaults}
 use Rattle.chip.specs.declared.state.State.{State}

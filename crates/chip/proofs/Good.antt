@@ -7,21 +7,21 @@ use native.Mathlib.Nat.{add-zero, zero-add, suc-add}
 use native.Mathlib.Omega.{arith}
 use borrow.Author.Tests.{leb-true, leb-false, le-leb}
 use lib.ListN.{length, set, length-set}
-use Rattle.timing.specs.Move.{positionAfter}
-use Rattle.timing.proofs.Move.{next-x-lt, next-y-lt}
-use Rattle.timing.proofs.After.{after-x-lt, after-y-lt}
-use Rattle.registers.specs.Blocks.{count}
-use Rattle.registers.specs.Kept.{keptOfControl, fits}
-use Rattle.registers.specs.Access.{waitsIn, waits}
-use Rattle.registers.specs.declared.Block.{Block}
-use Rattle.registers.specs.declared.Block.the-variants.{Control, WindowEntries, ColourMap, GammaMap, CursorGlyph, CursorColours}
-use Rattle.registers.specs.declared.Register.{Register}
-use Rattle.queue.specs.Queue.{full}
-use Rattle.queue.specs.Good.{goodQueue}
-use Rattle.queue.specs.declared.Waiting.{Waiting}
-use Rattle.queue.specs.declared.Queue.{Queue}
-use Rattle.queue.proofs.Order.{sized-pushed, sized-popped}
-use Rattle.queue.proofs.Rule.{both, says-write, good-pushed, good-popped}
+use Rattle.chip_timing.specs.Move.{positionAfter}
+use Rattle.chip_timing.proofs.Move.{next-x-lt, next-y-lt}
+use Rattle.chip_timing.proofs.After.{after-x-lt, after-y-lt}
+use Rattle.chip_registers.specs.Blocks.{count}
+use Rattle.chip_registers.specs.Kept.{keptOfControl, fits}
+use Rattle.chip_registers.specs.Access.{waitsIn, waits}
+use Rattle.chip_registers.specs.declared.Block.{Block}
+use Rattle.chip_registers.specs.declared.Block.the-variants.{Control, WindowEntries, ColourMap, GammaMap, CursorGlyph, CursorColours}
+use Rattle.chip_registers.specs.declared.Register.{Register}
+use Rattle.chip_queue.specs.Queue.{full}
+use Rattle.chip_queue.specs.Good.{goodQueue}
+use Rattle.chip_queue.specs.declared.Waiting.{Waiting}
+use Rattle.chip_queue.specs.declared.Queue.{Queue}
+use Rattle.chip_queue.proofs.Order.{sized-pushed, sized-popped}
+use Rattle.chip_queue.proofs.Rule.{both, says-write, good-pushed, good-popped}
 use Rattle.chip.specs.State.{Whole, fresh, controlWord, withPosition, goodWords, goodState}
 use Rattle.chip.specs.Call.{Chip}
 use Rattle.chip.specs.Write.{putIn, put}

@@ -7,10 +7,10 @@ use Rattle.rules.specs.Faults.{Numbered}
 use Rattle.rules.specs.Checked.{verdict}
 use Rattle.refusals.specs.Refusal.{numbered}
 use Rattle.refusals.specs.declared.Refusal.the-variants.{NoRegister}
-use Rattle.registers.specs.Named.{placeOf, named}
-use Rattle.registers.specs.declared.Register.{Register}
-use Rattle.registers.specs.declared.Named.{Named}
-use Rattle.registers.specs.declared.Named.the-variants.{Is, Nothing}
+use Rattle.chip_registers.specs.Named.{placeOf, named}
+use Rattle.chip_registers.specs.declared.Register.{Register}
+use Rattle.chip_registers.specs.declared.Named.{Named}
+use Rattle.chip_registers.specs.declared.Named.the-variants.{Is, Nothing}
 use Rattle.chip.specs.Call.{Chip, callFaults}
 use Rattle.chip.specs.Read.{shown, shownNamed, nameFaults, readFaults, readBack}
 use Rattle.chip.proofs.Fit.{tested, GoesOn, first-then, passes, stops}

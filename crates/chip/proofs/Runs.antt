@@ -9,14 +9,14 @@ use lib.Dec.{ltb, eqb}
 use lib.ListN.{length}
 use Rattle.rules.specs.Rule.{ok, refused}
 use Rattle.rules.specs.Faults.{Numbered}
-use Rattle.timing.specs.Signals.{signalsAt}
-use Rattle.timing.specs.Move.{positionAfter}
-use Rattle.timing.specs.Walk.{walked}
-use Rattle.timing.specs.declared.Position.{Position}
-use Rattle.timing.specs.declared.Walk.{Walk}
-use Rattle.timing.proofs.Walked.{walk-stops, walk-runs, walk-left-le, walk-at}
-use Rattle.registers.specs.Store.{storeLength}
-use Rattle.queue.proofs.Rule.{both}
+use Rattle.chip_timing.specs.Signals.{signalsAt}
+use Rattle.chip_timing.specs.Move.{positionAfter}
+use Rattle.chip_timing.specs.Walk.{walked}
+use Rattle.chip_timing.specs.declared.Position.{Position}
+use Rattle.chip_timing.specs.declared.Walk.{Walk}
+use Rattle.chip_timing.proofs.Walked.{walk-stops, walk-runs, walk-left-le, walk-at}
+use Rattle.chip_registers.specs.Store.{storeLength}
+use Rattle.chip_queue.proofs.Rule.{both}
 use Rattle.chip.specs.State.{controlWord, windowsOf, withPosition, goodState, Whole}
 use Rattle.chip.specs.Call.{Chip, callFaults}
 use Rattle.chip.specs.Dot.{signalsOf, drains, oldestApplied, moved, afterDot, dotted}

@@ -7,12 +7,12 @@ use native.Mathlib.Omega.{arith}
 use lib.ListN.{length}
 use Rattle.rules.specs.Rule.{ok}
 use Rattle.words.specs.Field.{field}
-use Rattle.registers.specs.Named.{named}
-use Rattle.registers.specs.Store.{inStore, storeLength, stored}
-use Rattle.registers.specs.declared.Block.the-variants.{Control}
-use Rattle.registers.specs.declared.Register.{Register}
-use Rattle.registers.specs.declared.Named.the-variants.{Is}
-use Rattle.registers.proofs.Naming.{named-room, named-position}
+use Rattle.chip_registers.specs.Named.{named}
+use Rattle.chip_registers.specs.Store.{inStore, storeLength, stored}
+use Rattle.chip_registers.specs.declared.Block.the-variants.{Control}
+use Rattle.chip_registers.specs.declared.Register.{Register}
+use Rattle.chip_registers.specs.declared.Named.the-variants.{Is}
+use Rattle.chip_registers.proofs.Naming.{named-room, named-position}
 use Rattle.chip.specs.State.{goodState}
 use Rattle.chip.specs.Call.{Chip}
 use Rattle.chip.specs.Read.{shownBy, shown, readBack}

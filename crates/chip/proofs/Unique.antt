@@ -7,7 +7,7 @@ use Rattle.rules.specs.Faults.{Numbered}
 use Rattle.rules.specs.Unique.{OneAnswer, OneOutcome}
 use Rattle.rules.proofs.Unique.{by-equation, by-saying, by-outcome}
 use Rattle.refusals.proofs.Known.{refusalOf, known}
-use Rattle.timing.specs.declared.Signals.{Signals}
+use Rattle.chip_timing.specs.declared.Signals.{Signals}
 use Rattle.chip.specs.Write as write-spec
 use Rattle.chip.specs.Read as read-spec
 use Rattle.chip.specs.Dot as dot-spec

@@ -6,8 +6,8 @@ use mathlib.Core.List.{List}
 use native.Mathlib.Numerals.{add-one}
 use lib.ListN.{length, getD, drop, drop-of-length-le}
 use lib.Seq.{drop-cons}
-use Rattle.registers.specs.Kept.{fits}
-use Rattle.registers.specs.declared.Block.the-variants.{Control}
+use Rattle.chip_registers.specs.Kept.{fits}
+use Rattle.chip_registers.specs.declared.Block.the-variants.{Control}
 use Rattle.chip.specs.State.{goodWords}
 
 module _ (words : List ℕ) (word : ℕ) (here : word < length words) where

@@ -10,13 +10,13 @@ use Rattle.rules.specs.Checked.{verdict}
 use Rattle.rules.proofs.Checked.{clear-verdict}
 use Rattle.refusals.specs.Refusal.{fitTold}
 use Rattle.refusals.specs.declared.Fit.{Fit}
-use Rattle.registers.specs.Named.{placeOf, named}
-use Rattle.registers.specs.Store.{storeLength}
-use Rattle.registers.specs.Access.{readOnly}
-use Rattle.registers.specs.declared.Register.{Register}
-use Rattle.registers.specs.declared.Named.{Named}
-use Rattle.registers.specs.declared.Named.the-variants.{Is}
-use Rattle.queue.specs.Queue.{full}
+use Rattle.chip_registers.specs.Named.{placeOf, named}
+use Rattle.chip_registers.specs.Store.{storeLength}
+use Rattle.chip_registers.specs.Access.{readOnly}
+use Rattle.chip_registers.specs.declared.Register.{Register}
+use Rattle.chip_registers.specs.declared.Named.{Named}
+use Rattle.chip_registers.specs.declared.Named.the-variants.{Is}
+use Rattle.chip_queue.specs.Queue.{full}
 use Rattle.chip.specs.Call.{Chip, callFaults}
 use Rattle.chip.specs.Write.{registerFaults, addressFaults, writeFaults, put, putNamed, written}
 use Rattle.chip.specs.Inner.{writeTest}

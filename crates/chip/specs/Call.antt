@@ -6,7 +6,7 @@ use lib.Dec.{eqb}
 use Rattle.rules.specs.Faults.{Fault}
 use Rattle.refusals.specs.Refusal.{fault}
 use Rattle.refusals.specs.declared.Refusal.the-variants.{StoreLength, BadState}
-use Rattle.registers.specs.Store.{storeLength}
+use Rattle.chip_registers.specs.Store.{storeLength}
 use Rattle.chip.specs.State.{goodState}
 use Rattle.chip.specs.declared.state.State.{State}
 

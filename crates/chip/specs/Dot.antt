@@ -5,11 +5,11 @@ use lib.ListN.{length, set}
 use Rattle.rules.specs.Rule.{Outcome, ok, refused}
 use Rattle.rules.specs.Faults.{Numbered, unless}
 use Rattle.refusals.specs.Refusal.{numbered}
-use Rattle.timing.specs.Signals.{signalsAt}
-use Rattle.timing.specs.Move.{nextPosition}
-use Rattle.timing.specs.declared.Signals.{Signals}
-use Rattle.queue.specs.Waiting.{target}
-use Rattle.queue.specs.Queue.{oldest, popped}
+use Rattle.chip_timing.specs.Signals.{signalsAt}
+use Rattle.chip_timing.specs.Move.{nextPosition}
+use Rattle.chip_timing.specs.declared.Signals.{Signals}
+use Rattle.chip_queue.specs.Waiting.{target}
+use Rattle.chip_queue.specs.Queue.{oldest, popped}
 use Rattle.chip.specs.State.{controlWord, windowsOf, withPosition, withQueue}
 use Rattle.chip.specs.Call.{Chip, callFaults}
 use Rattle.chip.specs.declared.state.State.{State}

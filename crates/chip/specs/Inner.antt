@@ -8,11 +8,11 @@ use Rattle.rules.specs.Faults.{Numbered}
 use Rattle.rules.specs.Checked.{verdict}
 use Rattle.refusals.specs.Refusal.{numbered, fitTold}
 use Rattle.refusals.specs.declared.Fit.{Fit}
-use Rattle.timing.specs.Move.{positionAfter}
-use Rattle.timing.specs.Walk.{walked}
-use Rattle.timing.specs.declared.Walk.{Walk}
-use Rattle.registers.specs.declared.Named.{Named}
-use Rattle.registers.specs.declared.Named.the-variants.{Is}
+use Rattle.chip_timing.specs.Move.{positionAfter}
+use Rattle.chip_timing.specs.Walk.{walked}
+use Rattle.chip_timing.specs.declared.Walk.{Walk}
+use Rattle.chip_registers.specs.declared.Named.{Named}
+use Rattle.chip_registers.specs.declared.Named.the-variants.{Is}
 use Rattle.chip.specs.State.{controlWord, windowsOf}
 use Rattle.chip.specs.Write.{addressFaults}
 use Rattle.chip.specs.declared.state.State.{State}

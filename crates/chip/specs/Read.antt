@@ -8,15 +8,15 @@ use Rattle.rules.specs.Rule.{Outcome, ok, refused}
 use Rattle.rules.specs.Faults.{Numbered, Fault, unless}
 use Rattle.refusals.specs.Refusal.{numbered, fault}
 use Rattle.refusals.specs.declared.Refusal.the-variants.{NoRegister}
-use Rattle.timing.specs.declared.Position.{Position}
-use Rattle.registers.specs.Named.{placeOf, named}
-use Rattle.registers.specs.Store.{stored}
-use Rattle.registers.specs.declared.Block.{Block}
-use Rattle.registers.specs.declared.Block.the-variants.{Control, WindowEntries, ColourMap, GammaMap, CursorGlyph, CursorColours}
-use Rattle.registers.specs.declared.Register.{Register}
-use Rattle.registers.specs.declared.Named.{Named}
-use Rattle.registers.specs.declared.Named.the-variants.{Is, Nothing}
-use Rattle.queue.specs.Queue.{room}
+use Rattle.chip_timing.specs.declared.Position.{Position}
+use Rattle.chip_registers.specs.Named.{placeOf, named}
+use Rattle.chip_registers.specs.Store.{stored}
+use Rattle.chip_registers.specs.declared.Block.{Block}
+use Rattle.chip_registers.specs.declared.Block.the-variants.{Control, WindowEntries, ColourMap, GammaMap, CursorGlyph, CursorColours}
+use Rattle.chip_registers.specs.declared.Register.{Register}
+use Rattle.chip_registers.specs.declared.Named.{Named}
+use Rattle.chip_registers.specs.declared.Named.the-variants.{Is, Nothing}
+use Rattle.chip_queue.specs.Queue.{room}
 use Rattle.chip.specs.Call.{Chip, callFaults}
 use Rattle.chip.specs.declared.state.State.{State}
 use Rattle.chip.specs.declared.read.Answer.{Answer}

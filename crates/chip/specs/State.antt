@@ -5,13 +5,13 @@ use mathlib.Core.Bool.{Bool, true, _&&_}
 use mathlib.Core.List.{List, [], _∷_}
 use lib.Dec.{leb}
 use lib.ListN.{length, getD, set, replicate}
-use Rattle.timing.specs.declared.Position.{Position}
-use Rattle.timing.specs.declared.Windows.{Windows}
-use Rattle.registers.specs.Kept.{fits}
-use Rattle.registers.specs.declared.Block.the-variants.{Control}
-use Rattle.queue.specs.Queue.{Sized, empty}
-use Rattle.queue.specs.Good.{goodQueue}
-use Rattle.queue.specs.declared.Queue.{Queue}
+use Rattle.chip_timing.specs.declared.Position.{Position}
+use Rattle.chip_timing.specs.declared.Windows.{Windows}
+use Rattle.chip_registers.specs.Kept.{fits}
+use Rattle.chip_registers.specs.declared.Block.the-variants.{Control}
+use Rattle.chip_queue.specs.Queue.{Sized, empty}
+use Rattle.chip_queue.specs.Good.{goodQueue}
+use Rattle.chip_queue.specs.declared.Queue.{Queue}
 use Rattle.chip.specs.declared.state.State.{State}
 
 -- there are 9 control words and 64 slots: the arrays of the code have them, where a definition sees lists

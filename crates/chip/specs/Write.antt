@@ -7,17 +7,17 @@ use Rattle.rules.specs.Rule.{Outcome, ok, refused}
 use Rattle.rules.specs.Faults.{Numbered, Fault, unless}
 use Rattle.refusals.specs.Refusal.{numbered, fault}
 use Rattle.refusals.specs.declared.Refusal.the-variants.{NoRegister, ReadOnly, StrayBits, QueueFull}
-use Rattle.registers.specs.Named.{placeOf, named}
-use Rattle.registers.specs.Kept.{fits}
-use Rattle.registers.specs.Store.{storeIndex}
-use Rattle.registers.specs.Access.{readOnly, waits}
-use Rattle.registers.specs.declared.Block.{Block}
-use Rattle.registers.specs.declared.Block.the-variants.{Control, WindowEntries, ColourMap, GammaMap, CursorGlyph, CursorColours}
-use Rattle.registers.specs.declared.Register.{Register}
-use Rattle.registers.specs.declared.Named.{Named}
-use Rattle.registers.specs.declared.Named.the-variants.{Is, Nothing}
-use Rattle.queue.specs.Queue.{full, pushed}
-use Rattle.queue.specs.Waiting.{writeTo}
+use Rattle.chip_registers.specs.Named.{placeOf, named}
+use Rattle.chip_registers.specs.Kept.{fits}
+use Rattle.chip_registers.specs.Store.{storeIndex}
+use Rattle.chip_registers.specs.Access.{readOnly, waits}
+use Rattle.chip_registers.specs.declared.Block.{Block}
+use Rattle.chip_registers.specs.declared.Block.the-variants.{Control, WindowEntries, ColourMap, GammaMap, CursorGlyph, CursorColours}
+use Rattle.chip_registers.specs.declared.Register.{Register}
+use Rattle.chip_registers.specs.declared.Named.{Named}
+use Rattle.chip_registers.specs.declared.Named.the-variants.{Is, Nothing}
+use Rattle.chip_queue.specs.Queue.{full, pushed}
+use Rattle.chip_queue.specs.Waiting.{writeTo}
 use Rattle.chip.specs.State.{withWord, withQueue}
 use Rattle.chip.specs.Call.{Chip, callFaults}
 use Rattle.chip.specs.declared.write.Answer.{Answer}

@@ -4,13 +4,13 @@ ghost use mathlib.Core.Path.{_≡_};
 ghost use mathlib.Core.Bool.{true, _&&_};
 ghost use lib.Dec.{ltb};
 ghost use lib.ListN.{length};
-ghost use Rattle.registers.specs.Store.{storeLength};
+ghost use Rattle.chip_registers.specs.Store.{storeLength};
 ghost use Rattle.chip.specs.State.{goodState};
 ghost use Rattle.chip.specs.Dot.{told, signalsOf, oldestApplied, moved, afterDot, dotted};
 use crate::state::State;
 use refusals::Fit;
 use refusals::Refusal;
-use timing::Signals;
+use chip_timing::Signals;
 
 // What a dot answers.
 pub enum Answer {

@@ -2,16 +2,16 @@
 ghost use mathlib.Core.Path.{_≡_};
 ghost use mathlib.Core.Bool.{true};
 ghost use lib.ListN.{length};
-ghost use Rattle.registers.specs.Store.{storeLength};
+ghost use Rattle.chip_registers.specs.Store.{storeLength};
 ghost use Rattle.chip.specs.State.{goodState, withPosition};
 ghost use Rattle.chip.specs.Dots.{told, afterDots, ran};
 ghost use Rattle.chip.specs.Inner.{walk};
 use crate::state::State;
 use refusals::Fit;
 use refusals::Refusal;
-use timing::Position;
-use timing::Signals;
-use timing::Walk;
+use chip_timing::Position;
+use chip_timing::Signals;
+use chip_timing::Walk;
 
 // What the last of some dots reported; none where there was no dot.
 pub enum Report {

@@ -3,17 +3,17 @@ ghost use Prim.Native.Nat.{_≤_, _<_};
 ghost use mathlib.Core.Path.{_≡_};
 ghost use mathlib.Core.Bool.{true};
 ghost use lib.ListN.{length};
-ghost use Rattle.registers.specs.Blocks.{count};
-ghost use Rattle.registers.specs.Store.{storeLength};
+ghost use Rattle.chip_registers.specs.Blocks.{count};
+ghost use Rattle.chip_registers.specs.Store.{storeLength};
 ghost use Rattle.chip.specs.State.{goodState};
 ghost use Rattle.chip.specs.Read.{shownBy, shownOfControl, shown, told, readBack};
 use crate::state::State;
 use refusals::Fit;
 use refusals::Refusal;
-use registers::Block;
-use registers::Named;
-use registers::Register;
-use timing::Position;
+use chip_registers::Block;
+use chip_registers::Named;
+use chip_registers::Register;
+use chip_timing::Position;
 
 // What a read answers.
 pub enum Answer {
@@ -78,7 +78,7 @@ impl State {
         }
         let named = Register::at(address);
         let Named::Is(register) = named else {
-            return Answer::Refused(Refusal::NoRegister(registers::place(address)));
+            return Answer::Refused(Refusal::NoRegister(chip_registers::place(address)));
         };
         Answer::Word(self.shown(store, register))
     }

@@ -4,13 +4,13 @@ ghost use Rattle.rules.specs.Checked.{verdict};
 ghost use Rattle.refusals.specs.Refusal.{fitTold};
 ghost use Rattle.chip.specs.State.{fresh, goodWords, goodState, windowsOf};
 ghost use Rattle.chip.specs.Call.{callFaults};
-use queue::Queue;
+use chip_queue::Queue;
 use refusals::Fit;
 use refusals::Refusal;
-use registers::Block;
-use registers::Register;
-use timing::Position;
-use timing::Windows;
+use chip_registers::Block;
+use chip_registers::Register;
+use chip_timing::Position;
+use chip_timing::Windows;
 
 // All that the chip holds besides the store.
 #[repr(C)]

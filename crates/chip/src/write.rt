@@ -3,21 +3,21 @@ ghost use Prim.Native.Nat.{_<_};
 ghost use mathlib.Core.Path.{_≡_};
 ghost use mathlib.Core.Bool.{false};
 ghost use lib.ListN.{length};
-ghost use Rattle.registers.specs.Blocks.{count};
-ghost use Rattle.registers.specs.Named.{named};
-ghost use Rattle.registers.specs.Store.{storeLength};
-ghost use Rattle.registers.specs.Access.{readOnly};
-ghost use Rattle.queue.specs.Queue.{pushed};
+ghost use Rattle.chip_registers.specs.Blocks.{count};
+ghost use Rattle.chip_registers.specs.Named.{named};
+ghost use Rattle.chip_registers.specs.Store.{storeLength};
+ghost use Rattle.chip_registers.specs.Access.{readOnly};
+ghost use Rattle.chip_queue.specs.Queue.{pushed};
 ghost use Rattle.chip.specs.State.{withWord, withQueue};
 ghost use Rattle.chip.specs.Write.{put, told, written};
 ghost use Rattle.chip.specs.Inner.{writeTest, Judged};
 use crate::state::State;
-use queue::Waiting;
+use chip_queue::Waiting;
 use refusals::Fit;
 use refusals::Refusal;
-use registers::Block;
-use registers::Named;
-use registers::Register;
+use chip_registers::Block;
+use chip_registers::Named;
+use chip_registers::Register;
 
 // What a write answers.
 pub enum Answer {
@@ -44,7 +44,7 @@ fn judged(fit: Fit, address: u32, value: u32, full: bool) -> Verdict
     if let Fit::Refused(refusal) = fit {
         return Verdict::Refused(refusal);
     }
-    let place = registers::place(address);
+    let place = chip_registers::place(address);
     let named = Register::at(address);
     let Named::Is(register) = named else {
         return Verdict::Refused(Refusal::NoRegister(place));

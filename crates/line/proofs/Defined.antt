@@ -7,8 +7,8 @@ use Rattle.rules.specs.Faults.{Numbered}
 use Rattle.rules.proofs.Cases.{impossible}
 use Rattle.refusals.specs.Refusal.{numbered}
 use Rattle.refusals.specs.declared.Refusal.the-variants.{UndefinedEntry}
-use Rattle.colour.specs.declared.entry.Decoded.{Decoded}
-use Rattle.colour.specs.declared.entry.Decoded.the-variants.{Defined, Undefined}
+use Rattle.line_colour.specs.declared.entry.Decoded.{Decoded}
+use Rattle.line_colour.specs.declared.entry.Decoded.the-variants.{Defined, Undefined}
 use Rattle.line.specs.Cells.{Cell}
 use Rattle.line.specs.Line.{definedAt}
 

@@ -13,10 +13,10 @@ use Rattle.rules.specs.Faults.{Numbered}
 use Rattle.rules.proofs.Cases.{impossible}
 use Rattle.rules.proofs.Fill.{fill-run, filled-length, tail-lent}
 use Rattle.refusals.specs.declared.Refusal.{Refusal}
-use Rattle.colour.specs.declared.entry.Entry.{Entry}
-use Rattle.pixels.specs.Cells.{pixelView}
-use Rattle.pixels.specs.Colour.{overlayCounts, colourOf}
-use Rattle.setup.specs.declared.controls.Controls.{Controls}
+use Rattle.line_colour.specs.declared.entry.Entry.{Entry}
+use Rattle.line_pixels.specs.Cells.{pixelView}
+use Rattle.line_pixels.specs.Colour.{overlayCounts, colourOf}
+use Rattle.line_setup.specs.declared.controls.Controls.{Controls}
 use Rattle.line.specs.Screen.{screenOf}
 use Rattle.line.specs.Cells.{Lent, lentOf}
 use Rattle.line.specs.Inner.{Sized, RunTold, Entries, colourBy, colourAt, Enough}

@@ -11,24 +11,24 @@ use Rattle.rules.specs.Faults.{Numbered}
 use Rattle.rules.proofs.Then.{run-ok, run-refused, run-within}
 use Rattle.refusals.specs.Refusal.{numbered}
 use Rattle.refusals.specs.declared.Refusal.the-variants.{UndefinedEntry}
-use Rattle.colour.specs.Entry.{decoded}
-use Rattle.colour.specs.declared.entry.Entry.{Entry}
-use Rattle.colour.specs.declared.entry.Decoded.{Decoded}
-use Rattle.colour.specs.declared.entry.Decoded.the-variants.{Defined, Undefined}
-use Rattle.colour.proofs.Kept.{decoded-kept}
-use Rattle.registers.specs.Store.{stored}
-use Rattle.registers.specs.declared.Block.the-variants.{WindowEntries}
-use Rattle.windows.specs.Table.{TableCell, tableView}
-use Rattle.windows.specs.Frame.{lineTableOf, told as startSaid}
-use Rattle.windows.specs.Ids.{idOf}
-use Rattle.windows.specs.Carried.{foundFrom, told as foundSaid, idBelow}
-use Rattle.windows.specs.declared.frame.LineTable.{LineTable}
-use Rattle.windows.specs.declared.frame.LineTable.the-variants.{Starts, Refused as NoTable}
-use Rattle.windows.specs.declared.ids.Found.{Found}
-use Rattle.windows.specs.declared.ids.LookedUp.{LookedUp}
-use Rattle.windows.specs.declared.ids.LookedUp.the-variants.{Id, Refused as NoId}
-use Rattle.windows.proofs.Pixels.{found-serves, refused-serves}
-use Rattle.setup.specs.declared.controls.Controls.{Controls}
+use Rattle.line_colour.specs.Entry.{decoded}
+use Rattle.line_colour.specs.declared.entry.Entry.{Entry}
+use Rattle.line_colour.specs.declared.entry.Decoded.{Decoded}
+use Rattle.line_colour.specs.declared.entry.Decoded.the-variants.{Defined, Undefined}
+use Rattle.line_colour.proofs.Kept.{decoded-kept}
+use Rattle.chip_registers.specs.Store.{stored}
+use Rattle.chip_registers.specs.declared.Block.the-variants.{WindowEntries}
+use Rattle.line_windows.specs.Table.{TableCell, tableView}
+use Rattle.line_windows.specs.Frame.{lineTableOf, told as startSaid}
+use Rattle.line_windows.specs.Ids.{idOf}
+use Rattle.line_windows.specs.Carried.{foundFrom, told as foundSaid, idBelow}
+use Rattle.line_windows.specs.declared.frame.LineTable.{LineTable}
+use Rattle.line_windows.specs.declared.frame.LineTable.the-variants.{Starts, Refused as NoTable}
+use Rattle.line_windows.specs.declared.ids.Found.{Found}
+use Rattle.line_windows.specs.declared.ids.LookedUp.{LookedUp}
+use Rattle.line_windows.specs.declared.ids.LookedUp.the-variants.{Id, Refused as NoId}
+use Rattle.line_windows.proofs.Pixels.{found-serves, refused-serves}
+use Rattle.line_setup.specs.declared.controls.Controls.{Controls}
 use Rattle.line.specs.Cells.{Lent, lentOf, view}
 use Rattle.line.specs.Line.{inTable, startOf, idAt, definedAt, entryAt}
 use Rattle.line.specs.Inner.{PassedAt, Served, RunTold, StartTold}

@@ -15,11 +15,11 @@ use Rattle.rules.proofs.Cases.{le-or-lt}
 use Rattle.rules.proofs.Each.{each-ok, each-stop}
 use Rattle.refusals.specs.Refusal.{numbered}
 use Rattle.refusals.specs.declared.Refusal.{Refusal}
-use Rattle.formats.specs.declared.Format.the-variants.{Index8}
-use Rattle.colour.specs.declared.entry.Entry.{Entry}
-use Rattle.windows.specs.Table.{tableView}
-use Rattle.windows.proofs.Pixels.{passed-start}
-use Rattle.setup.specs.declared.controls.Controls.{Controls}
+use Rattle.line_formats.specs.declared.Format.the-variants.{Index8}
+use Rattle.line_colour.specs.declared.entry.Entry.{Entry}
+use Rattle.line_windows.specs.Table.{tableView}
+use Rattle.line_windows.proofs.Pixels.{passed-start}
+use Rattle.line_setup.specs.declared.controls.Controls.{Controls}
 use Rattle.line.specs.Cells.{lentOf, view}
 use Rattle.line.specs.Line.{entryAt}
 use Rattle.line.specs.Inner.{Over, PassedAt, RunTold, Entries}

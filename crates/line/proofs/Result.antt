@@ -9,8 +9,8 @@ use lib.ListN.{length, getD}
 use Rattle.rules.specs.Rule.{Outcome, run}
 use Rattle.rules.specs.Faults.{Numbered}
 use Rattle.chip.specs.declared.state.State.{State}
-use Rattle.setup.specs.Controls.{switch, depthOf, controlsOf}
-use Rattle.setup.specs.declared.setup.Setup.{Setup}
+use Rattle.line_setup.specs.Controls.{switch, depthOf, controlsOf}
+use Rattle.line_setup.specs.declared.setup.Setup.{Setup}
 use Rattle.line.specs.Cells.{Lent, view}
 use Rattle.line.specs.Line.{lineRule, lineOf}
 use Rattle.line.specs.Drawn.{setupOf, said, after, drawn}

@@ -13,11 +13,11 @@ use Rattle.rules.proofs.Then.{run-ok, run-refused}
 use Rattle.rules.proofs.Each.{each-ok, each-of-values}
 use Rattle.rules.proofs.Checked.{run-checked}
 use Rattle.rules.proofs.Value.{run-within-value}
-use Rattle.colour.specs.declared.entry.Entry.{Entry}
-use Rattle.pixels.specs.Cells.{pixelView}
-use Rattle.pixels.specs.Colour.{colourOf}
-use Rattle.setup.specs.Faults.{lineFaults}
-use Rattle.setup.specs.declared.setup.Setup.{Setup}
+use Rattle.line_colour.specs.declared.entry.Entry.{Entry}
+use Rattle.line_pixels.specs.Cells.{pixelView}
+use Rattle.line_pixels.specs.Colour.{colourOf}
+use Rattle.line_setup.specs.Faults.{lineFaults}
+use Rattle.line_setup.specs.declared.setup.Setup.{Setup}
 use Rattle.line.specs.Screen.{screenIn}
 use Rattle.line.specs.Cells.{Cell, ofColour, Lent, lentOf, view}
 use Rattle.line.specs.Line.{startOf, entryAt, entriesOf, inColours, coloursOf, lineRule}

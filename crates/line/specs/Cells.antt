@@ -1,10 +1,10 @@
 -- What is lent to a line, and the cells that its answer may rest on.
 use Prim.Native.Nat.{ℕ}
 use mathlib.Core.List.{List}
-use Rattle.registers.specs.Store.{stored}
-use Rattle.registers.specs.declared.Block.the-variants.{WindowEntries}
-use Rattle.windows.specs.Table.{TableCell, tableView}
-use Rattle.pixels.specs.Cells.{PixelCell, pixelView}
+use Rattle.chip_registers.specs.Store.{stored}
+use Rattle.chip_registers.specs.declared.Block.the-variants.{WindowEntries}
+use Rattle.line_windows.specs.Table.{TableCell, tableView}
+use Rattle.line_pixels.specs.Cells.{PixelCell, pixelView}
 
 -- the store, the window-ID table, the normal row and the overlay row
 pub record Lent : Type 0 where

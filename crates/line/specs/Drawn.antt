@@ -7,8 +7,8 @@ use Rattle.rules.specs.Faults.{Numbered}
 use Rattle.refusals.specs.Refusal.{numbered}
 use Rattle.chip.specs.State.{goodState}
 use Rattle.chip.specs.declared.state.State.{State}
-use Rattle.setup.specs.Controls.{controlsOf}
-use Rattle.setup.specs.declared.setup.Setup.{Setup}
+use Rattle.line_setup.specs.Controls.{controlsOf}
+use Rattle.line_setup.specs.declared.setup.Setup.{Setup}
 use Rattle.line.specs.Cells.{Lent}
 use Rattle.line.specs.Line.{lineOf}
 use Rattle.line.specs.declared.draw.Answer.{Answer}

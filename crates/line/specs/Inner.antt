@@ -13,20 +13,20 @@ use Rattle.rules.specs.Checked.{verdict}
 use Rattle.refusals.specs.Refusal.{numbered}
 use Rattle.refusals.specs.declared.Fit.the-variants.{Yes, Refused as Unfit}
 use Rattle.refusals.specs.declared.Fit.{Fit}
-use Rattle.colour.specs.declared.entry.Entry.{Entry}
-use Rattle.registers.specs.Store.{storeLength}
-use Rattle.windows.specs.Table.{tableView}
-use Rattle.windows.specs.Inner.{PassedIds}
-use Rattle.windows.specs.declared.frame.LineTable.{LineTable}
-use Rattle.windows.specs.declared.frame.LineTable.the-variants.{Starts, Refused as NoTable}
-use Rattle.windows.specs.declared.ids.LookedUp.{LookedUp}
-use Rattle.windows.specs.declared.ids.LookedUp.the-variants.{Id, Refused as NoId}
-use Rattle.pixels.specs.Cells.{PixelCell, pixelView}
-use Rattle.pixels.specs.Colour.{SaidAt, colourOf}
-use Rattle.pixels.specs.declared.Screen.{Screen}
-use Rattle.setup.specs.Faults.{normalLength, lineFaults}
-use Rattle.setup.specs.declared.controls.Controls.{Controls}
-use Rattle.setup.specs.declared.setup.Setup.{Setup}
+use Rattle.line_colour.specs.declared.entry.Entry.{Entry}
+use Rattle.chip_registers.specs.Store.{storeLength}
+use Rattle.line_windows.specs.Table.{tableView}
+use Rattle.line_windows.specs.Inner.{PassedIds}
+use Rattle.line_windows.specs.declared.frame.LineTable.{LineTable}
+use Rattle.line_windows.specs.declared.frame.LineTable.the-variants.{Starts, Refused as NoTable}
+use Rattle.line_windows.specs.declared.ids.LookedUp.{LookedUp}
+use Rattle.line_windows.specs.declared.ids.LookedUp.the-variants.{Id, Refused as NoId}
+use Rattle.line_pixels.specs.Cells.{PixelCell, pixelView}
+use Rattle.line_pixels.specs.Colour.{SaidAt, colourOf}
+use Rattle.line_pixels.specs.declared.Screen.{Screen}
+use Rattle.line_setup.specs.Faults.{normalLength, lineFaults}
+use Rattle.line_setup.specs.declared.controls.Controls.{Controls}
+use Rattle.line_setup.specs.declared.setup.Setup.{Setup}
 use Rattle.line.specs.Screen.{screenOf}
 use Rattle.line.specs.Cells.{Cell, Lent, lentOf, view}
 use Rattle.line.specs.Line.{startOf, idAt, entryAt, lineRule}

@@ -8,18 +8,18 @@ use Rattle.rules.specs.Faults.{Numbered}
 use Rattle.rules.specs.Checked.{checked}
 use Rattle.refusals.specs.Refusal.{numbered}
 use Rattle.refusals.specs.declared.Refusal.the-variants.{UndefinedEntry}
-use Rattle.colour.specs.Entry.{decoded}
-use Rattle.colour.specs.declared.entry.Entry.{Entry}
-use Rattle.colour.specs.declared.entry.Decoded.{Decoded}
-use Rattle.colour.specs.declared.entry.Decoded.the-variants.{Defined, Undefined}
-use Rattle.windows.specs.Table.{TableCell}
-use Rattle.windows.specs.Frame.{lineTableOf}
-use Rattle.windows.specs.Ids.{idOf}
-use Rattle.pixels.specs.Cells.{PixelCell}
-use Rattle.pixels.specs.Colour.{colourOf}
-use Rattle.setup.specs.Faults.{lineFaults}
-use Rattle.setup.specs.declared.controls.Controls.{Controls}
-use Rattle.setup.specs.declared.setup.Setup.{Setup}
+use Rattle.line_colour.specs.Entry.{decoded}
+use Rattle.line_colour.specs.declared.entry.Entry.{Entry}
+use Rattle.line_colour.specs.declared.entry.Decoded.{Decoded}
+use Rattle.line_colour.specs.declared.entry.Decoded.the-variants.{Defined, Undefined}
+use Rattle.line_windows.specs.Table.{TableCell}
+use Rattle.line_windows.specs.Frame.{lineTableOf}
+use Rattle.line_windows.specs.Ids.{idOf}
+use Rattle.line_pixels.specs.Cells.{PixelCell}
+use Rattle.line_pixels.specs.Colour.{colourOf}
+use Rattle.line_setup.specs.Faults.{lineFaults}
+use Rattle.line_setup.specs.declared.controls.Controls.{Controls}
+use Rattle.line_setup.specs.declared.setup.Setup.{Setup}
 use Rattle.line.specs.Screen.{screenIn}
 use Rattle.line.specs.Cells.{Cell, ofTable, windowEntry, ofColour, Lent, view}
 

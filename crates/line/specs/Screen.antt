@@ -1,8 +1,8 @@
 -- What the control words say of every pixel of a line.
 use Prim.Native.Nat.{ℕ}
-use Rattle.pixels.specs.declared.Screen.{Screen}
-use Rattle.setup.specs.declared.controls.Controls.{Controls}
-use Rattle.setup.specs.declared.setup.Setup.{Setup}
+use Rattle.line_pixels.specs.declared.Screen.{Screen}
+use Rattle.line_setup.specs.declared.controls.Controls.{Controls}
+use Rattle.line_setup.specs.declared.setup.Setup.{Setup}
 
 -- what they say of every pixel of line y
 abbrev pub screenOf : Controls → ℕ → Screen

@@ -9,10 +9,10 @@ use crate::passes::draw_runs;
 use chip::state::State;
 use refusals::Fit;
 use refusals::Refusal;
-use setup::controls::Controls;
-use setup::setup::Lengths;
-use setup::setup::Setup;
-use windows::frame::LineTable;
+use line_setup::controls::Controls;
+use line_setup::setup::Lengths;
+use line_setup::setup::Setup;
+use line_windows::frame::LineTable;
 
 // What a line answers.
 pub enum Answer {
@@ -31,7 +31,7 @@ fn start(controls: Controls, table: &[u8], y: u32) -> LineTable
     ensures { λ r. ⌜ StartTold controls (now (table .entry)) y r ⌝ }
 {
     if controls.ids {
-        return windows::frame::line_table(table, y);
+        return line_windows::frame::line_table(table, y);
     }
     LineTable::Starts(0)
 }

@@ -1,15 +1,15 @@
 // The two passes over a line: every run is checked, and then every run is drawn.
 ghost use mathlib.Core.Path.{_≡_};
 ghost use lib.ListN.{length};
-ghost use Rattle.registers.specs.Store.{storeLength};
+ghost use Rattle.chip_registers.specs.Store.{storeLength};
 ghost use Rattle.line.specs.Screen.{screenOf};
 ghost use Rattle.line.specs.Cells.{lentOf};
 ghost use Rattle.line.specs.Inner.{Sized, Entries, EntriesTold, Enough, coloured};
 use crate::runs::RunAt;
 use crate::runs::run_at;
-use pixels::Screen;
+use line_pixels::Screen;
 use refusals::Fit;
-use setup::controls::Controls;
+use line_setup::controls::Controls;
 
 // The first pass: whether every pixel has a defined window entry.
 pub(crate) fn check_runs(controls: Controls, store: &[u32], table: &[u8], start: usize) -> Fit

@@ -2,14 +2,14 @@
 ghost use Prim.Native.Nat.{_<_};
 ghost use mathlib.Core.Path.{_≡_};
 ghost use lib.ListN.{length};
-ghost use Rattle.registers.specs.Store.{storeLength};
+ghost use Rattle.chip_registers.specs.Store.{storeLength};
 ghost use Rattle.line.specs.Inner.{PassedAt, Served, RunTold};
-use colour::entry::Decoded;
-use colour::entry::Entry;
+use line_colour::entry::Decoded;
+use line_colour::entry::Entry;
 use refusals::Refusal;
-use setup::controls::Controls;
-use windows::ids::Found;
-use windows::ids::LookedUp;
+use line_setup::controls::Controls;
+use line_windows::ids::Found;
+use line_windows::ids::LookedUp;
 
 // What the window entry of a run says, the pixel behind its last, and the line entry to go on from.
 pub struct Run {
@@ -30,7 +30,7 @@ fn id_at(controls: Controls, table: &[u8], start: usize, from: usize, x: u32) ->
     ensures { λ r. ⌜ Served controls (now (table .entry)) start x r ⌝ }
 {
     if controls.ids {
-        return windows::ids::look_up(table, start, from, x);
+        return line_windows::ids::look_up(table, start, from, x);
     }
     LookedUp::Id(Found {
         id: 0,
@@ -60,7 +60,7 @@ pub(crate) fn run_at(
         };
     };
     let id = found.id as usize;
-    let decoded = colour::entry::decode(store[id], controls.depth);
+    let decoded = line_colour::entry::decode(store[id], controls.depth);
     let Decoded::Defined(entry) = decoded else {
         return RunAt::Refused(Refusal::UndefinedEntry(x));
     };

@@ -4,10 +4,10 @@ use mathlib.Core.Bool.{Bool, true, false, cond}
 use mathlib.Core.List.{List}
 use lib.Dec.{leb}
 use lib.ListN.{length}
-use Rattle.listing.specs.Text.{Listed, text}
-use Rattle.listing.specs.Room.{roomFor, placed}
-use Rattle.answers.specs.Answers.{over}
-use Rattle.answers.specs.declared.Answer.{Answer}
+use Rattle.session_listing.specs.Text.{Listed, text}
+use Rattle.session_listing.specs.Room.{roomFor, placed}
+use Rattle.session_answers.specs.Answers.{over}
+use Rattle.session_answers.specs.declared.Answer.{Answer}
 use Rattle.replay.specs.declared.course.Going.{Going}
 use Rattle.replay.specs.declared.course.Going.the-variants.{On, Over, Unread, Unwritten}
 use Rattle.replay.specs.declared.course.Course.{Course}

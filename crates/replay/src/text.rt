@@ -1,14 +1,14 @@
 // Text of the listing, which waits until there is much of it.
 ghost use mathlib.Core.Bool.{true};
 ghost use mathlib.Core.Path.{_≡_};
-ghost use Rattle.listing.specs.Text.{said};
+ghost use Rattle.session_listing.specs.Text.{said};
 ghost use Rattle.replay.specs.Run.{putBehind, hasRoom};
 use crate::course::Course;
 use crate::course::Going;
 use libc::STDOUT_FILENO;
-use listing::entry::Entry;
-use listing::render::Rendered;
-use listing::render::render;
+use session_listing::entry::Entry;
+use session_listing::render::Rendered;
+use session_listing::render::render;
 
 // Writes out the text up to a place. Answers whether all of it was written.
 pub(crate) fn write_out(text: &[u8], put: usize) -> bool {

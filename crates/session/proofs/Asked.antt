@@ -6,8 +6,8 @@ use Rattle.rules.specs.Rule.{Outcome, ok}
 use Rattle.rules.specs.Faults.{Numbered}
 use Rattle.chip.specs.Call.{Chip}
 use Rattle.chip.specs.declared.state.State.{State}
-use Rattle.listing.specs.Text.{Listed}
-use Rattle.answers.specs.Came.{Came, listed}
+use Rattle.session_listing.specs.Text.{Listed}
+use Rattle.session_answers.specs.Came.{Came, listed}
 use Rattle.session.specs.Record.{entryOf}
 use Rattle.session.specs.Inner.{withState, counted, listedIn, askedIn}
 use Rattle.session.specs.declared.session.Session.{Session}

@@ -8,11 +8,11 @@ use Rattle.rules.specs.Rule.{Outcome, ok}
 use Rattle.rules.specs.Faults.{Numbered}
 use Rattle.chip.specs.Write.{written}
 use Rattle.chip.specs.Dots.{ran}
-use Rattle.records.specs.declared.record.Record.the-variants.{End, Write, Dots, Table, Normal, Overlay, Line}
-use Rattle.listing.specs.Text.{line}
-use Rattle.listing.specs.Text.{ok as done}
-use Rattle.answers.specs.Came.{Came, listed, ended}
-use Rattle.setup.specs.Controls.{controlsOf}
+use Rattle.session_records.specs.declared.record.Record.the-variants.{End, Write, Dots, Table, Normal, Overlay, Line}
+use Rattle.session_listing.specs.Text.{line}
+use Rattle.session_listing.specs.Text.{ok as done}
+use Rattle.session_answers.specs.Came.{Came, listed, ended}
+use Rattle.line_setup.specs.Controls.{controlsOf}
 use Rattle.line.specs.Cells.{lentOf}
 use Rattle.line.specs.Drawn.{drawn}
 use Rattle.session.specs.Record.{entryOf, atPosition}

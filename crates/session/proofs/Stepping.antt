@@ -16,19 +16,19 @@ use Rattle.rules.proofs.Faults.{none-holds, first-holds}
 use Rattle.rules.proofs.Checked.{first-verdict, clear-verdict}
 use Rattle.refusals.specs.Refusal.{numbered}
 use Rattle.refusals.specs.declared.Refusal.{Refusal}
-use Rattle.records.specs.Parts.{lengthOf, bodyOf}
-use Rattle.records.specs.Found.{found}
-use Rattle.records.specs.Tags.{longestTable, longestNormal, longestOverlay}
-use Rattle.records.specs.declared.record.Record.{Record}
-use Rattle.records.specs.declared.record.Record.the-variants.{End, Write, Dots, Table, Normal, Overlay, Line}
-use Rattle.records.specs.declared.record.Context.{Context}
-use Rattle.records.specs.declared.record.Found.{Found}
-use Rattle.records.specs.declared.record.Found.the-variants.{Is, More, Refused}
-use Rattle.records.proofs.Tests.{neither}
-use Rattle.records.proofs.Behind.{judgedAt}
-use Rattle.records.proofs.Limits.{table-fits, normal-fits, overlay-fits}
-use Rattle.answers.specs.Came.{Came, waits, stopped}
-use Rattle.rooms.specs.Rooms.{tooMuchHeld, roomFaults}
+use Rattle.session_records.specs.Parts.{lengthOf, bodyOf}
+use Rattle.session_records.specs.Found.{found}
+use Rattle.session_records.specs.Tags.{longestTable, longestNormal, longestOverlay}
+use Rattle.session_records.specs.declared.record.Record.{Record}
+use Rattle.session_records.specs.declared.record.Record.the-variants.{End, Write, Dots, Table, Normal, Overlay, Line}
+use Rattle.session_records.specs.declared.record.Context.{Context}
+use Rattle.session_records.specs.declared.record.Found.{Found}
+use Rattle.session_records.specs.declared.record.Found.the-variants.{Is, More, Refused}
+use Rattle.session_records.proofs.Tests.{neither}
+use Rattle.session_records.proofs.Behind.{judgedAt}
+use Rattle.session_records.proofs.Limits.{table-fits, normal-fits, overlay-fits}
+use Rattle.session_answers.specs.Came.{Came, waits, stopped}
+use Rattle.session_rooms.specs.Rooms.{tooMuchHeld, roomFaults}
 use Rattle.session.specs.Held.{Held}
 use Rattle.session.specs.Record.{cameBy, contextOf, stepped}
 use Rattle.session.specs.Lent.{Rooms, heldIn, leftIn}

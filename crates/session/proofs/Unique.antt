@@ -4,9 +4,9 @@ use mathlib.Core.Path.{ap, _∙_}
 use denote.Ref.{now}
 use Rattle.rules.specs.Unique.{OneAnswer, OneOutcome}
 use Rattle.rules.proofs.Unique.{by-equation, by-outcome}
-use Rattle.answers.specs.Came.{told}
-use Rattle.answers.specs.declared.Answer.{Answer}
-use Rattle.answers.proofs.Known.{answer-known}
+use Rattle.session_answers.specs.Came.{told}
+use Rattle.session_answers.specs.declared.Answer.{Answer}
+use Rattle.session_answers.proofs.Known.{answer-known}
 use Rattle.session.specs.Lent.{roomsOf}
 use Rattle.session.specs.declared.session.Session.{Session}
 use Rattle.session.specs.declared.step.Stepped.{Stepped}

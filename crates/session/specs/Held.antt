@@ -2,10 +2,10 @@
 use Prim.Native.Nat.{ℕ, _+_}
 use mathlib.Core.List.{List, []}
 use lib.ListN.{replicate}
-use Rattle.registers.specs.Store.{storeLength}
+use Rattle.chip_registers.specs.Store.{storeLength}
 use Rattle.chip.specs.State.{fresh}
 use Rattle.chip.specs.Call.{Chip}
-use Rattle.rooms.specs.Rooms.{longestLine}
+use Rattle.session_rooms.specs.Rooms.{longestLine}
 
 -- the chip, the bytes of the ID table, of the normal row and of the overlay row, the words of the output, and how many records stood before the next one
 pub record Held : Type 0 where

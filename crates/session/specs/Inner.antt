@@ -6,10 +6,10 @@ use Rattle.rules.specs.Rule.{Outcome, ok}
 use Rattle.rules.specs.Faults.{Numbered}
 use Rattle.chip.specs.Call.{Chip}
 use Rattle.chip.specs.declared.state.State.{State}
-use Rattle.records.specs.declared.record.Record.{Record}
-use Rattle.records.specs.declared.record.Record.the-variants.{End, Write, Dots, Table, Normal, Overlay, Line}
-use Rattle.listing.specs.Text.{Listed}
-use Rattle.answers.specs.Came.{Came, listed}
+use Rattle.session_records.specs.declared.record.Record.{Record}
+use Rattle.session_records.specs.declared.record.Record.the-variants.{End, Write, Dots, Table, Normal, Overlay, Line}
+use Rattle.session_listing.specs.Text.{Listed}
+use Rattle.session_answers.specs.Came.{Came, listed}
 use Rattle.session.specs.Record.{entryOf, acted}
 use Rattle.session.specs.Lent.{Rooms, heldIn, leftIn}
 use Rattle.session.specs.declared.session.Session.{Session}

@@ -3,8 +3,8 @@ use Prim.Native.Nat.{ℕ, zero, suc, _+_}
 use mathlib.Core.Bool.{true, cond}
 use mathlib.Core.List.{List, [], _++_}
 use lib.ListN.{drop}
-use Rattle.records.specs.Tags.{mostRecords}
-use Rattle.answers.specs.Came.{textOf, goesOn}
+use Rattle.session_records.specs.Tags.{mostRecords}
+use Rattle.session_answers.specs.Came.{textOf, goesOn}
 use Rattle.session.specs.Held.{Held, empty}
 use Rattle.session.specs.Record.{stepped}
 

@@ -6,23 +6,23 @@ use lib.ListN.{length}
 use Rattle.rules.specs.Rule.{Outcome, ok, refused}
 use Rattle.rules.specs.Faults.{Numbered}
 use Rattle.refusals.specs.Refusal.{numbered}
-use Rattle.timing.specs.declared.Position.{Position}
+use Rattle.chip_timing.specs.declared.Position.{Position}
 use Rattle.chip.specs.Call.{Chip}
 use Rattle.chip.specs.Write.{written}
 use Rattle.chip.specs.Dots.{ran}
 use Rattle.chip.specs.declared.state.State.{State}
 use Rattle.chip.specs.declared.dots.Report.{Report}
-use Rattle.records.specs.Parts.{bodyOf}
-use Rattle.records.specs.Found.{found}
-use Rattle.records.specs.declared.record.Record.{Record}
-use Rattle.records.specs.declared.record.Record.the-variants.{End, Write, Dots, Table, Normal, Overlay, Line}
-use Rattle.records.specs.declared.record.Context.{Context}
-use Rattle.records.specs.declared.record.Found.{Found}
-use Rattle.records.specs.declared.record.Found.the-variants.{Is, More, Refused}
-use Rattle.listing.specs.Text.{Listed, at, line}
-use Rattle.listing.specs.Text as text
-use Rattle.answers.specs.Came.{Came, listed, ended, waits, stopped}
-use Rattle.setup.specs.Controls.{controlsOf}
+use Rattle.session_records.specs.Parts.{bodyOf}
+use Rattle.session_records.specs.Found.{found}
+use Rattle.session_records.specs.declared.record.Record.{Record}
+use Rattle.session_records.specs.declared.record.Record.the-variants.{End, Write, Dots, Table, Normal, Overlay, Line}
+use Rattle.session_records.specs.declared.record.Context.{Context}
+use Rattle.session_records.specs.declared.record.Found.{Found}
+use Rattle.session_records.specs.declared.record.Found.the-variants.{Is, More, Refused}
+use Rattle.session_listing.specs.Text.{Listed, at, line}
+use Rattle.session_listing.specs.Text as text
+use Rattle.session_answers.specs.Came.{Came, listed, ended, waits, stopped}
+use Rattle.line_setup.specs.Controls.{controlsOf}
 use Rattle.line.specs.Cells.{lentOf}
 use Rattle.line.specs.Drawn.{drawn}
 use Rattle.session.specs.Held.{Held, withChip, withTable, withNormal, withOverlay, withLine}

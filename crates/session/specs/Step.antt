@@ -5,9 +5,9 @@ use mathlib.Core.List.{List}
 use lib.ListN.{length, drop}
 use Rattle.rules.specs.Rule.{Outcome}
 use Rattle.rules.specs.Faults.{Numbered, Fault, unless}
-use Rattle.answers.specs.Came.{Came}
-use Rattle.rooms.specs.Rooms.{lentFaults}
-use Rattle.rooms.specs.declared.Counts.{Counts}
+use Rattle.session_answers.specs.Came.{Came}
+use Rattle.session_rooms.specs.Rooms.{lentFaults}
+use Rattle.session_rooms.specs.declared.Counts.{Counts}
 use Rattle.session.specs.Record.{stepped}
 use Rattle.session.specs.Lent.{Rooms, heldIn, roomsWith, sessionOf}
 use Rattle.session.specs.declared.session.Session.{Session}

@@ -6,10 +6,10 @@ ghost use Rattle.chip.specs.Write.{written};
 ghost use Rattle.chip.specs.Write.{told as toldOfWrite};
 ghost use Rattle.chip.specs.Dots.{ran};
 ghost use Rattle.chip.specs.Dots.{told as toldOfDots};
-ghost use Rattle.listing.specs.Text.{said, line};
-ghost use Rattle.listing.specs.Text.{ok as done};
-ghost use Rattle.answers.specs.Came.{told};
-ghost use Rattle.setup.specs.Controls.{controlsOf};
+ghost use Rattle.session_listing.specs.Text.{said, line};
+ghost use Rattle.session_listing.specs.Text.{ok as done};
+ghost use Rattle.session_answers.specs.Came.{told};
+ghost use Rattle.line_setup.specs.Controls.{controlsOf};
 ghost use Rattle.line.specs.Cells.{lentOf};
 ghost use Rattle.line.specs.Drawn.{drawn};
 ghost use Rattle.line.specs.Drawn.{told as toldOfLine};
@@ -18,12 +18,12 @@ ghost use Rattle.session.specs.Lent.{roomsOf};
 ghost use Rattle.session.specs.Inner.{withState, withCounts, listedIn, askedIn, Within, Fits, actedIn};
 use crate::keep::keep;
 use crate::session::Session;
-use answers::Answer;
+use session_answers::Answer;
 use chip::state::State;
-use listing::entry::Entry;
-use records::record::Record;
-use setup::controls::Controls;
-use timing::Position;
+use session_listing::entry::Entry;
+use session_records::record::Record;
+use line_setup::controls::Controls;
+use chip_timing::Position;
 
 // The session after a record, and its answer.
 pub struct Acted {

@@ -1,15 +1,15 @@
 // One record of a session.
 ghost use mathlib.Core.Path.{_≡_};
-ghost use Rattle.answers.specs.Came.{told};
+ghost use Rattle.session_answers.specs.Came.{told};
 ghost use Rattle.session.specs.Lent.{roomsOf};
 ghost use Rattle.session.specs.Step.{sessionStep};
 use crate::session::Session;
-use answers::Answer;
-use records::record::Context;
-use records::record::Found;
+use session_answers::Answer;
+use session_records::record::Context;
+use session_records::record::Found;
 use refusals::Fit;
-use rooms::Counts;
-use rooms::fit;
+use session_rooms::Counts;
+use session_rooms::fit;
 
 // The session that a step hands back, the place of the next record, and the answer.
 pub struct Stepped {
@@ -58,7 +58,7 @@ pub fn step(
         table: held,
         last,
     };
-    let found = reader::read(bytes, place, context);
+    let found = session_reader::read(bytes, place, context);
     match found {
         Found::Is { record, length } => {
             let start = place + 3;

@@ -4,10 +4,10 @@ use mathlib.Core.Bool.{true, false}
 use borrow.Author.Needs.{needs}
 use borrow.Author.Tests.{not-true, not-false}
 use Rattle.refusals.specs.declared.Fit.the-variants.{Yes}
-use Rattle.registers.specs.Named.{named}
-use Rattle.registers.specs.Kept.{fits}
-use Rattle.registers.specs.Access.{readOnly}
-use Rattle.registers.specs.declared.Named.the-variants.{Is}
+use Rattle.chip_registers.specs.Named.{named}
+use Rattle.chip_registers.specs.Kept.{fits}
+use Rattle.chip_registers.specs.Access.{readOnly}
+use Rattle.chip_registers.specs.declared.Named.the-variants.{Is}
 use Rattle.chip.proofs.write.judged.Statement.{statement}
 use Rattle.chip.proofs.write.judged.Tie as tie
 

@@ -6,11 +6,11 @@ use Rattle.rules.specs.Checked.{verdict}
 use Rattle.rules.specs.Rule.{ok}
 use Rattle.refusals.specs.Refusal.{fitTold}
 use Rattle.refusals.specs.declared.Fit.{Fit}
-use Rattle.windows.specs.declared.frame.LineTable.the-variants.{Starts}
-use Rattle.windows.specs.declared.frame.LineTable.{LineTable}
-use Rattle.setup.specs.Faults.{lineFaults}
-use Rattle.setup.proofs.Fitted.{fitted}
-use Rattle.setup.proofs.setup.Setup.fit.Reads as fit-reads
+use Rattle.line_windows.specs.declared.frame.LineTable.the-variants.{Starts}
+use Rattle.line_windows.specs.declared.frame.LineTable.{LineTable}
+use Rattle.line_setup.specs.Faults.{lineFaults}
+use Rattle.line_setup.proofs.Fitted.{fitted}
+use Rattle.line_setup.proofs.setup.Setup.fit.Reads as fit-reads
 use Rattle.line.specs.Cells.{lentOf}
 use Rattle.line.specs.Inner.{StartTold, EntriesTold, CheckedTold}
 use Rattle.line.proofs.Whole.{line-unfit, line-no-table, line-no-entry}

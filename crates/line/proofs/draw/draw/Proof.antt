@@ -6,11 +6,11 @@ use borrow.Author.Needs.{needs}
 use denote.Ref.{now}
 use lib.ListN.{length}
 use Rattle.rules.specs.Rule.{ok}
-use Rattle.windows.specs.declared.frame.LineTable.{LineTable}
+use Rattle.line_windows.specs.declared.frame.LineTable.{LineTable}
 use Rattle.chip.proofs.state.State.good.Reads as good-reads
-use Rattle.setup.specs.declared.setup.Setup.{Setup}
-use Rattle.setup.proofs.Fitted.{fitted}
-use Rattle.setup.proofs.controls.Controls.of.Reads as of-reads
+use Rattle.line_setup.specs.declared.setup.Setup.{Setup}
+use Rattle.line_setup.proofs.Fitted.{fitted}
+use Rattle.line_setup.proofs.controls.Controls.of.Reads as of-reads
 use Rattle.line.specs.Cells.{lentOf}
 use Rattle.line.specs.Drawn.{setupOf}
 use Rattle.line.specs.Inner.{Sized, CheckedTold, Drawable}

@@ -5,7 +5,7 @@ use native.Mathlib.Omega.{arith}
 use borrow.Author.Needs.{needs}
 use denote.Ref.{now}
 use lib.ListN.{length}
-use Rattle.pixels.proofs.Screen.fill.Reads as fill-reads
+use Rattle.line_pixels.proofs.Screen.fill.Reads as fill-reads
 use Rattle.line.specs.Inner.{RunTold}
 use Rattle.line.specs.declared.runs.RunAt.the-variants.{Is}
 use Rattle.line.specs.declared.runs.RunAt.{RunAt}

@@ -6,11 +6,11 @@ use types.Run
 use denote.Ref.{now}
 use lib.ListN.{getD}
 use Rattle.rules.proofs.Cases.{impossible}
-use Rattle.colour.specs.Entry.{decoded}
-use Rattle.colour.specs.declared.entry.Decoded.the-variants.{Defined}
-use Rattle.colour.proofs.entry.decode.Reads as decode-reads
-use Rattle.windows.specs.declared.ids.LookedUp.the-variants.{Id}
-use Rattle.windows.specs.declared.ids.LookedUp.{LookedUp}
+use Rattle.line_colour.specs.Entry.{decoded}
+use Rattle.line_colour.specs.declared.entry.Decoded.the-variants.{Defined}
+use Rattle.line_colour.proofs.entry.decode.Reads as decode-reads
+use Rattle.line_windows.specs.declared.ids.LookedUp.the-variants.{Id}
+use Rattle.line_windows.specs.declared.ids.LookedUp.{LookedUp}
 use Rattle.line.specs.Cells.{lentOf}
 use Rattle.line.specs.Inner.{Served}
 use Rattle.line.proofs.Entries.{entry-no-id, entry-undefined, run-within-line, run-to-end}

@@ -4,8 +4,8 @@ use mathlib.Core.Path.{_≡_, refl, ap, _∙_}
 use mathlib.Core.Bool.{Bool, true, false, cond}
 use native.Mathlib.Omega.{arith}
 use borrow.Author.Needs.{needs}
-use Rattle.answers.specs.Answers.{over}
-use Rattle.answers.specs.declared.Answer.{Answer}
+use Rattle.session_answers.specs.Answers.{over}
+use Rattle.session_answers.specs.declared.Answer.{Answer}
 use Rattle.replay.specs.Run.{withFrom, ended, movedBy}
 use Rattle.replay.specs.declared.course.Going.the-variants.{Over}
 use Rattle.replay.specs.declared.course.Course.{Course}

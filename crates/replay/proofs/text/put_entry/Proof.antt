@@ -8,10 +8,10 @@ use denote.Ref.{now}
 use lib.Dec.{leb}
 use lib.ListN.{length}
 use Rattle.rules.proofs.Cases.{impossible}
-use Rattle.listing.specs.Text.{Listed, said, text}
-use Rattle.listing.specs.Room.{roomFor, placed, rendered}
-use Rattle.listing.specs.declared.render.Rendered.{Rendered}
-use Rattle.listing.specs.declared.render.Rendered.the-variants.{To, NoRoom}
+use Rattle.session_listing.specs.Text.{Listed, said, text}
+use Rattle.session_listing.specs.Room.{roomFor, placed, rendered}
+use Rattle.session_listing.specs.declared.render.Rendered.{Rendered}
+use Rattle.session_listing.specs.declared.render.Rendered.the-variants.{To, NoRoom}
 use Rattle.replay.specs.Run.{withPut}
 use Rattle.replay.specs.declared.course.Course.{Course}
 use Rattle.replay.proofs.text.put_entry.Statement.{statement}

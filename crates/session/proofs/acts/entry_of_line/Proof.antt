@@ -1,7 +1,7 @@
 -- `session::acts::entry_of_line` meets its contract, case by case. Assumes nothing.
 use mathlib.Core.Path.{ap, sym}
 use borrow.Author.Needs.{needs}
-use Rattle.listing.specs.Text.{line}
+use Rattle.session_listing.specs.Text.{line}
 use Rattle.line.specs.Drawn.{told}
 use Rattle.line.specs.declared.draw.Answer.{Answer}
 use Rattle.session.specs.Record.{entryOf}

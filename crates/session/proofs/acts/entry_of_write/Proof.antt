@@ -3,7 +3,7 @@ use mathlib.Core.Path.{ap, sym}
 use borrow.Author.Needs.{needs}
 use Rattle.chip.specs.Write.{told}
 use Rattle.chip.specs.declared.write.Answer.{Answer}
-use Rattle.listing.specs.Text.{ok as done}
+use Rattle.session_listing.specs.Text.{ok as done}
 use Rattle.session.specs.Record.{entryOf}
 use Rattle.session.proofs.acts.entry_of_write.Statement.{statement}
 use Rattle.session.proofs.acts.entry_of_write.Tie as tie

@@ -1,7 +1,7 @@
 -- `session::acts::width` meets its contract. Assumes nothing.
 use mathlib.Core.Path.{ap}
 use borrow.Author.Needs.{needs}
-use Rattle.setup.specs.declared.controls.Controls.{Controls}
+use Rattle.line_setup.specs.declared.controls.Controls.{Controls}
 use Rattle.session.proofs.acts.width.Statement.{statement}
 use Rattle.session.proofs.acts.width.Tie as tie
 

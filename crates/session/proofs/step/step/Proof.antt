@@ -8,8 +8,8 @@ use lib.ListN.{length, drop}
 use Rattle.rules.specs.Checked.{verdict}
 use Rattle.refusals.specs.Refusal.{fitTold}
 use Rattle.refusals.specs.declared.Fit.{Fit}
-use Rattle.records.proofs.Accepted.{found-accepted}
-use Rattle.records.proofs.Limits.{numbered-below}
+use Rattle.session_records.proofs.Accepted.{found-accepted}
+use Rattle.session_records.proofs.Limits.{numbered-below}
 use Rattle.session.specs.Lent.{roomsOf}
 use Rattle.session.specs.Step.{stepFaults}
 use Rattle.session.proofs.Stepping.{judgedBy, ends-within, body-part, body-long, fitted, within, fits, step-refused, step-waits, step-stops, step-acts}

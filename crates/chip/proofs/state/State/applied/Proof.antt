@@ -3,8 +3,8 @@ use mathlib.Core.Path.{_≡_, refl}
 use native.Mathlib.Omega.{arith}
 use borrow.Author.Needs.{needs}
 use lib.ListN.{length, length-map}
-use Rattle.queue.specs.Queue.{oldest}
-use Rattle.queue.proofs.Rule.{good-oldest, write-says}
+use Rattle.chip_queue.specs.Queue.{oldest}
+use Rattle.chip_queue.proofs.Rule.{good-oldest, write-says}
 use Rattle.chip.proofs.Good.{good-says}
 use Rattle.chip.proofs.state.State.applied.Statement.{statement}
 use Rattle.chip.proofs.state.State.applied.Tie as tie

@@ -3,7 +3,7 @@ use mathlib.Core.Path.{ap, sym, _∙_}
 use borrow.Author.Needs.{needs}
 use Rattle.rules.specs.Rule.{ok}
 use Rattle.refusals.specs.Refusal.{fitTold}
-use Rattle.timing.specs.declared.Signals.{Signals}
+use Rattle.chip_timing.specs.declared.Signals.{Signals}
 use Rattle.chip.specs.Call.{Chip}
 use Rattle.chip.specs.Dot.{signalsOf, afterDot}
 use Rattle.chip.specs.declared.dots.Report.the-variants.{Last}

@@ -4,7 +4,7 @@ use mathlib.Core.Bool.{true}
 use native.Mathlib.Omega.{arith}
 use borrow.Author.Needs.{needs}
 use borrow.Author.Tests.{le-leb, lt-leb, not-true, not-false}
-use Rattle.queue.proofs.Rule.{none-good}
+use Rattle.chip_queue.proofs.Rule.{none-good}
 use Rattle.chip.specs.State.{goodWords, goodState}
 use Rattle.chip.proofs.Good.{says-good}
 use Rattle.chip.proofs.state.State.good.Statement.{statement}

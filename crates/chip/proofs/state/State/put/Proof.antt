@@ -4,10 +4,10 @@ use mathlib.Core.Path.{ap, sym, _∙_}
 use native.Mathlib.Omega.{arith}
 use borrow.Author.Needs.{needs}
 use borrow.Author.Tests.{leb-false}
-use Rattle.registers.specs.Store.{storeLength}
-use Rattle.registers.specs.declared.Block.{Block}
-use Rattle.registers.proofs.Store.{store-below}
-use Rattle.registers.proofs.Access.{neither-waits}
+use Rattle.chip_registers.specs.Store.{storeLength}
+use Rattle.chip_registers.specs.declared.Block.{Block}
+use Rattle.chip_registers.proofs.Store.{store-below}
+use Rattle.chip_registers.proofs.Access.{neither-waits}
 use Rattle.chip.specs.Write.{putIn}
 use Rattle.chip.specs.declared.state.State.{State}
 use Rattle.chip.proofs.Blocks.{stored-put}

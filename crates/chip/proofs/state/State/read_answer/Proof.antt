@@ -5,7 +5,7 @@ use borrow.Author.Needs.{needs}
 use Rattle.rules.specs.Rule.{ok, refused}
 use Rattle.refusals.specs.Refusal.{numbered, fitTold}
 use Rattle.refusals.specs.declared.Refusal.the-variants.{NoRegister}
-use Rattle.registers.proofs.Naming.{named-word}
+use Rattle.chip_registers.proofs.Naming.{named-word}
 use Rattle.chip.proofs.Fit.{fit-says}
 use Rattle.chip.proofs.Readings.{read-unfit, read-nowhere, read-shown}
 use Rattle.chip.proofs.state.State.read_answer.Statement.{statement}

@@ -3,10 +3,10 @@ use Prim.Native.Nat.{_<_}
 use mathlib.Core.Path.{ap, sym, _∙_}
 use native.Mathlib.Omega.{arith}
 use borrow.Author.Needs.{needs}
-use Rattle.registers.specs.Store.{storeLength}
-use Rattle.registers.specs.declared.Block.{Block}
-use Rattle.registers.proofs.Store.{store-below}
-use Rattle.registers.proofs.Access.{elsewhere-stored}
+use Rattle.chip_registers.specs.Store.{storeLength}
+use Rattle.chip_registers.specs.declared.Block.{Block}
+use Rattle.chip_registers.proofs.Store.{store-below}
+use Rattle.chip_registers.proofs.Access.{elsewhere-stored}
 use Rattle.chip.specs.Read.{shownIn}
 use Rattle.chip.proofs.Blocks.{stored-shown}
 use Rattle.chip.proofs.state.State.shown.Statement.{statement}

@@ -1,8 +1,8 @@
 -- `chip::state::State::signals` meets its contract: those of the windows at the position. Assumes nothing.
 use mathlib.Core.Path.{ap, _∙_}
 use borrow.Author.Needs.{needs}
-use Rattle.timing.specs.Signals.{signalsAt}
-use Rattle.timing.specs.declared.Windows.{Windows}
+use Rattle.chip_timing.specs.Signals.{signalsAt}
+use Rattle.chip_timing.specs.declared.Windows.{Windows}
 use Rattle.chip.proofs.state.State.signals.Statement.{statement}
 use Rattle.chip.proofs.state.State.signals.Tie as tie
 

@@ -5,8 +5,8 @@ use mathlib.Core.Bool.{true}
 use native.Mathlib.Omega.{arith}
 use borrow.Author.Needs.{needs}
 use lib.ListN.{length, length-map}
-use Rattle.timing.specs.declared.Walk.{Walk}
-use Rattle.registers.specs.Store.{storeLength}
+use Rattle.chip_timing.specs.declared.Walk.{Walk}
+use Rattle.chip_registers.specs.Store.{storeLength}
 use Rattle.chip.specs.State.{goodState, withPosition}
 use Rattle.chip.specs.Call.{Chip}
 use Rattle.chip.specs.Dot.{signalsOf, afterDot}

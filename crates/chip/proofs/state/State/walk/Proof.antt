@@ -5,10 +5,10 @@ use mathlib.Core.Bool.{Bool, cond}
 use borrow.Author.Needs.{needs}
 use borrow.Author.Tests.{eq-eqb, ne-eqb}
 use lib.Dec.{eqb}
-use Rattle.timing.specs.Move.{positionAfter}
-use Rattle.timing.specs.Walk.{walked}
-use Rattle.timing.specs.declared.Position.{Position}
-use Rattle.timing.specs.declared.Windows.{Windows}
+use Rattle.chip_timing.specs.Move.{positionAfter}
+use Rattle.chip_timing.specs.Walk.{walked}
+use Rattle.chip_timing.specs.declared.Position.{Position}
+use Rattle.chip_timing.specs.declared.Windows.{Windows}
 use Rattle.chip.specs.State.{controlWord, windowsOf}
 use Rattle.chip.specs.Inner.{walk}
 use Rattle.chip.specs.declared.state.State.{State}

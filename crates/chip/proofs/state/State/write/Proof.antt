@@ -4,8 +4,8 @@ use borrow.Author.Needs.{needs}
 use Rattle.rules.specs.Rule.{Outcome, ok}
 use Rattle.rules.specs.Faults.{Numbered}
 use Rattle.rules.specs.Checked.{verdict}
-use Rattle.registers.specs.Named.{named}
-use Rattle.registers.proofs.Naming.{named-word}
+use Rattle.chip_registers.specs.Named.{named}
+use Rattle.chip_registers.proofs.Naming.{named-word}
 use Rattle.chip.specs.Call.{Chip}
 use Rattle.chip.specs.Write.{writeFaults}
 use Rattle.chip.specs.Inner.{Judged}

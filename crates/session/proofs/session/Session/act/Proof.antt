@@ -7,8 +7,8 @@ use borrow.Author.Needs.{needs}
 use denote.Ref.{now}
 use Rattle.rules.specs.Rule.{Outcome}
 use Rattle.rules.specs.Faults.{Numbered}
-use Rattle.records.specs.declared.record.Record.{Record}
-use Rattle.answers.specs.Came.{Came}
+use Rattle.session_records.specs.declared.record.Record.{Record}
+use Rattle.session_answers.specs.Came.{Came}
 use Rattle.session.specs.Lent.{Rooms, roomsOf}
 use Rattle.session.specs.Inner.{Fits, actedIn}
 use Rattle.session.specs.declared.session.Session.{Session}

@@ -5,8 +5,8 @@ use native.Mathlib.Nat.{sub-zero}
 use borrow.Author.Needs.{needs}
 use denote.Ref.{now}
 use lib.ListN.{take}
-use Rattle.listing.specs.Text.{line}
-use Rattle.setup.specs.Controls.{controlsOf}
+use Rattle.session_listing.specs.Text.{line}
+use Rattle.line_setup.specs.Controls.{controlsOf}
 use Rattle.line.specs.Cells.{lentOf}
 use Rattle.line.specs.Drawn.{told, drawn}
 use Rattle.session.specs.Record.{entryOf}

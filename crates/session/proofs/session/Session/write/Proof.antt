@@ -2,7 +2,7 @@
 use borrow.Author.Needs.{needs}
 use denote.Ref.{now}
 use Rattle.chip.specs.Write.{told, written}
-use Rattle.listing.specs.Text.{ok as done}
+use Rattle.session_listing.specs.Text.{ok as done}
 use Rattle.session.proofs.Asked.{asked-by}
 use Rattle.session.proofs.session.Session.write.Statement.{statement}
 use Rattle.session.proofs.session.Session.write.Tie as tie

@@ -1,0 +1,28 @@
+-- No second answer meets a contract of this crate, and none leaves lent memory otherwise. Assumes nothing.
+use denote.Ref.{now}
+use Rattle.rules.specs.Unique.{OneAnswer, OneOutcome}
+use Rattle.rules.proofs.Unique.{by-equation, by-pair}
+use Rattle.c_chip.proofs.calls.bulitampaw_fresh.Reads as fresh
+use Rattle.c_chip.proofs.calls.bulitampaw_write.Reads as write
+use Rattle.c_chip.proofs.calls.bulitampaw_read.Reads as read
+use Rattle.c_chip.proofs.calls.bulitampaw_dot.Reads as dot
+use Rattle.c_chip.proofs.calls.bulitampaw_dots.Reads as dots
+use Rattle.c_chip.proofs.calls.bulitampaw_line.Reads as line
+
+pub fresh-unique : OneAnswer fresh.Post
+fresh-unique = by-equation _ _
+
+pub write-unique : OneOutcome (λ k exit. now (exit .1 .0)) write.Post
+write-unique = by-pair _ (λ k exit. now (exit .1 .0)) _
+
+pub read-unique : OneAnswer read.Post
+read-unique = by-equation _ _
+
+pub dot-unique : OneOutcome (λ k exit. now (exit .1 .0)) dot.Post
+dot-unique = by-pair _ (λ k exit. now (exit .1 .0)) _
+
+pub dots-unique : OneOutcome (λ k exit. now (exit .1 .0)) dots.Post
+dots-unique = by-pair _ (λ k exit. now (exit .1 .0)) _
+
+pub line-unique : OneOutcome (λ k exit. now (exit .1 .1 .1 .1 .1 .1 .0)) line.Post
+line-unique = by-pair _ (λ k exit. now (exit .1 .1 .1 .1 .1 .1 .0)) _

@@ -1,0 +1,29 @@
+-- `c_chip::calls::bulitampaw_line` meets its contract: the line's answer in numbers. Assumes nothing.
+use Prim.Native.Nat.{ℕ}
+use mathlib.Core.Path.{ap}
+use mathlib.Core.List.{List}
+use borrow.Author.Needs.{needs}
+use Rattle.rules.specs.Rule.{Outcome}
+use Rattle.rules.specs.Faults.{Numbered}
+use Rattle.chip.specs.declared.state.State.{State}
+use Rattle.c_chip.specs.Calls.{lineAnswer, drawnInNumbers}
+use Rattle.c_chip.proofs.calls.bulitampaw_line.Statement.{statement}
+use Rattle.c_chip.proofs.calls.bulitampaw_line.Tie as tie
+
+draw-requires : tie.Need-draw-requires
+draw-requires c κs = search needs
+
+of-line-requires : tie.Need-of-line-requires
+of-line-requires c κs = search needs
+
+same-length : tie.Need-same-length
+same-length c = search needs
+
+returns : tie.Need-returns
+unfolding drawnInNumbers
+returns c =
+    rw (c .of-line .ensures)
+    (ap (λ (all : (State × List ℕ) × Outcome Numbered (Unit {0})). (lineAnswer (all .0 .0) (all .1), all .0 .1)) (c .before .before .before .before .draw .ensures))
+
+pub bulitampaw-line-spec : {M : Type 1} → statement M
+bulitampaw-line-spec = tie.close (tie.spec draw-requires of-line-requires same-length returns)

@@ -1,0 +1,63 @@
+-- What C is answered by a call on the chip.
+use Prim.Native.Nat.{ℕ}
+use mathlib.Core.List.{List}
+use Rattle.rules.specs.Rule.{Outcome}
+use Rattle.rules.specs.Faults.{Numbered}
+use Rattle.c_numbers.specs.Numbers.{refusalOf}
+use Rattle.c_numbers.specs.declared.Refused.{Refused}
+use Rattle.chip.specs.Call.{Chip}
+use Rattle.chip.specs.Write.{written}
+use Rattle.chip.specs.Read.{readBack}
+use Rattle.chip.specs.Dot.{dotted}
+use Rattle.chip.specs.Dots.{ran}
+use Rattle.chip.specs.declared.state.State.{State}
+use Rattle.chip.specs.declared.dots.Report.{Report}
+use Rattle.line.specs.Cells.{Lent}
+use Rattle.line.specs.Drawn.{drawn}
+use Rattle.c_chip.specs.Reports.{wordOf, reportOfDot, reportOfDots, inNumbers}
+use Rattle.c_chip.specs.declared.calls.Written.{Written}
+use Rattle.c_chip.specs.declared.calls.ReadBack.{ReadBack}
+use Rattle.c_chip.specs.declared.calls.Dotted.{Dotted}
+use Rattle.c_chip.specs.declared.calls.Drawn.{Drawn}
+
+-- a write
+abbrev pub writeAnswer : State → Outcome Numbered (Unit {0}) → Written
+writeAnswer state answer = record { state = state; refusal = refusalOf answer }
+
+-- what it answers, and the words of the store after it
+unfoldable pub writtenInNumbers : Chip → ℕ → ℕ → Written × List ℕ
+writtenInNumbers chip address value =
+    let all = written chip address value in
+    (writeAnswer (all .0 .0) (all .1), all .0 .1)
+
+-- a read
+abbrev pub readAnswer : State → Outcome Numbered ℕ → ReadBack
+readAnswer state answer = record { state = state; refusal = refusalOf answer; word = wordOf answer }
+
+-- what it answers; it changes no word of the store
+unfoldable pub readInNumbers : Chip → ℕ → ReadBack
+readInNumbers chip address = let all = readBack chip address in readAnswer (all .0 .0) (all .1)
+
+-- dots, one or many
+abbrev pub dotsAnswer : State → Refused → Report → Dotted
+dotsAnswer state refusal report = record { state = state; refusal = refusal; signals = inNumbers report }
+
+-- what a dot answers, and the words of the store after it
+unfoldable pub dottedInNumbers : Chip → Dotted × List ℕ
+dottedInNumbers chip =
+    let all = dotted chip in
+    (dotsAnswer (all .0 .0) (refusalOf (all .1)) (reportOfDot (all .1)), all .0 .1)
+
+-- what a run of dots answers, and the words of the store after it
+unfoldable pub ranInNumbers : Chip → ℕ → Dotted × List ℕ
+ranInNumbers chip count =
+    let all = ran chip count in
+    (dotsAnswer (all .0 .0) (refusalOf (all .1)) (reportOfDots (all .1)), all .0 .1)
+
+-- a line
+abbrev pub lineAnswer : State → Outcome Numbered (Unit {0}) → Drawn
+lineAnswer state answer = record { state = state; refusal = refusalOf answer }
+
+-- what it answers, and the words of the output after it
+unfoldable pub drawnInNumbers : State → ℕ → Lent → List ℕ → Drawn × List ℕ
+drawnInNumbers state y lent output = let all = drawn state y lent output in (lineAnswer (all .0 .0) (all .1), all .0 .1)

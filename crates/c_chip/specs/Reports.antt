@@ -1,0 +1,35 @@
+-- What reads and dots report, in plain numbers.
+use Prim.Native.Nat.{ℕ}
+use Rattle.rules.specs.Rule.{Outcome, ok, refused}
+use Rattle.rules.specs.Faults.{Numbered}
+use Rattle.c_numbers.specs.Numbers.{number}
+use Rattle.chip_timing.specs.declared.Signals.{Signals}
+use Rattle.chip.specs.declared.dots.Report.{Report}
+use Rattle.chip.specs.declared.dots.Report.the-variants.{Nothing, Last}
+use Rattle.c_chip.specs.declared.numbers.Reported.{Reported}
+
+-- the word that a read answers, or 0
+abbrev pub wordOf : Outcome Numbered ℕ → ℕ
+wordOf (ok word) = word
+wordOf (refused refusal) = 0
+
+-- what a dot reported
+abbrev pub reportOfDot : Outcome Numbered Signals → Report
+reportOfDot (ok signals) = Last signals
+reportOfDot (refused refusal) = Nothing
+
+-- what a run of dots reported
+abbrev pub reportOfDots : Outcome Numbered Report → Report
+reportOfDots (ok report) = report
+reportOfDots (refused refusal) = Nothing
+
+-- a report: whether a dot was made, and the signals of the last one
+abbrev pub inNumbers : Report → Reported
+inNumbers Nothing = record { reported = 0; hsync = 0; vsync = 0; blank = 0 }
+inNumbers (Last signals) =
+    record {
+      reported = 1;
+      hsync = number (signals .hsync);
+      vsync = number (signals .vsync);
+      blank = number (signals .blank);
+    }

@@ -1,0 +1,141 @@
+// What C calls on the chip: the state goes and comes by value, memory is lent, and a refusal is its number and place, or 0 and 0.
+ghost use mathlib.Core.Path.{_≡_};
+ghost use Rattle.chip.specs.State.{fresh};
+ghost use Rattle.line.specs.Cells.{lentOf};
+ghost use Rattle.c_chip.specs.Calls.{writtenInNumbers, readInNumbers, dottedInNumbers, ranInNumbers, drawnInNumbers};
+use crate::numbers::Reported;
+use crate::numbers::in_numbers;
+use crate::numbers::of_dot;
+use crate::numbers::of_dots;
+use crate::numbers::of_line;
+use crate::numbers::of_read;
+use crate::numbers::of_write;
+use crate::numbers::report_of_dot;
+use crate::numbers::report_of_dots;
+use crate::numbers::word_of;
+use chip::state::State;
+use c_numbers::Refused;
+
+// What a write answers.
+#[repr(C)]
+pub struct Written {
+    pub state: State,
+    pub refusal: Refused,
+}
+
+// What a read answers: the word that the register shows, or 0.
+#[repr(C)]
+pub struct ReadBack {
+    pub state: State,
+    pub refusal: Refused,
+    pub word: u32,
+}
+
+// What dots answer, one or many.
+#[repr(C)]
+pub struct Dotted {
+    pub state: State,
+    pub refusal: Refused,
+    pub signals: Reported,
+}
+
+// What a line answers.
+#[repr(C)]
+pub struct Drawn {
+    pub state: State,
+    pub refusal: Refused,
+}
+
+// A fresh state: all zero, its queue empty.
+#[no_mangle]
+pub extern "C" fn bulitampaw_fresh() -> State
+    ensures { λ r. ⌜ r ≡ fresh ⌝ }
+{
+    State::new()
+}
+
+// One register write.
+#[no_mangle]
+pub extern "C" fn bulitampaw_write(
+    state: State,
+    store: &mut [u32],
+    address: u32,
+    value: u32,
+) -> Written
+    ensures { λ r. ⌜ (r, now (store .exit)) ≡ writtenInNumbers (state, now (store .entry)) address value ⌝ }
+{
+    let written = state.write(store, address, value);
+    let answer = written.answer;
+    let next = written.state;
+    Written {
+        state: next,
+        refusal: of_write(answer),
+    }
+}
+
+// One register read.
+#[no_mangle]
+pub extern "C" fn bulitampaw_read(state: State, store: &[u32], address: u32) -> ReadBack
+    ensures { λ r. ⌜ r ≡ readInNumbers (state, now (store .entry)) address ⌝ }
+{
+    let read = state.read(store, address);
+    let answer = read.answer;
+    let next = read.state;
+    ReadBack {
+        state: next,
+        refusal: of_read(answer),
+        word: word_of(answer),
+    }
+}
+
+// One dot.
+#[no_mangle]
+pub extern "C" fn bulitampaw_dot(state: State, store: &mut [u32]) -> Dotted
+    ensures { λ r. ⌜ (r, now (store .exit)) ≡ dottedInNumbers (state, now (store .entry)) ⌝ }
+{
+    let dotted = state.dot(store);
+    let answer = dotted.answer;
+    let next = dotted.state;
+    Dotted {
+        state: next,
+        refusal: of_dot(answer),
+        signals: in_numbers(report_of_dot(answer)),
+    }
+}
+
+// So many dots.
+#[no_mangle]
+pub extern "C" fn bulitampaw_dots(state: State, store: &mut [u32], count: u32) -> Dotted
+    ensures { λ r. ⌜ (r, now (store .exit)) ≡ ranInNumbers (state, now (store .entry)) count ⌝ }
+{
+    let ran = state.dots(store, count);
+    let answer = ran.answer;
+    let next = ran.state;
+    Dotted {
+        state: next,
+        refusal: of_dots(answer),
+        signals: in_numbers(report_of_dots(answer)),
+    }
+}
+
+// One drawn line.
+#[no_mangle]
+pub extern "C" fn bulitampaw_line(
+    state: State,
+    y: u32,
+    store: &[u32],
+    table: &[u8],
+    normal: &[u8],
+    overlay: &[u8],
+    output: &mut [u32],
+) -> Drawn
+    ensures { λ r. ⌜ (r, now (output .exit)) ≡ drawnInNumbers state y (lentOf (now (store .entry)) (now (table .entry)) (now (normal .entry)) (now (overlay .entry))) (now (output .entry)) ⌝ }
+{
+    let drawn = line::draw::draw(state, y, store, table, normal, overlay, output);
+    let answer = drawn.answer;
+    let next = drawn.state;
+    Drawn {
+        state: next,
+        refusal: of_line(answer),
+    }
+}

@@ -1,0 +1,24 @@
+-- Answers in plain numbers: 1 for yes and 0 for no; a refusal's number and place, or 0 and 0.
+use Prim.Native.Nat.{ℕ}
+use mathlib.Core.Bool.{Bool, true, false}
+use Rattle.rules.specs.Rule.{Outcome, ok, refused}
+use Rattle.rules.specs.Faults.{Numbered, placeIn}
+use Rattle.c_numbers.specs.declared.Refused.{Refused}
+
+-- yes and no
+abbrev pub number : Bool → ℕ
+number true = 1
+number false = 0
+
+-- nothing is refused
+abbrev pub nothing : Refused
+nothing = record { number = 0; place = 0 }
+
+-- a refusal
+abbrev pub refusedBy : Numbered → Refused
+refusedBy refusal = record { number = refusal .number; place = placeIn refusal }
+
+-- what a call is refused by, if it is
+abbrev pub refusalOf : {A : Type 0} → Outcome Numbered A → Refused
+refusalOf (ok answer) = nothing
+refusalOf (refused refusal) = refusedBy refusal

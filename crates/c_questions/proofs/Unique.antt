@@ -1,0 +1,11 @@
+-- No second answer meets a contract of this crate. Assumes nothing.
+use Rattle.rules.specs.Unique.{OneAnswer}
+use Rattle.rules.proofs.Unique.{by-equation}
+use Rattle.c_questions.proofs.bulitampaw_entry_defined.Reads as entry-defined
+use Rattle.c_questions.proofs.bulitampaw_signal_holds.Reads as signal-holds
+
+pub entry-defined-unique : OneAnswer entry-defined.Post
+entry-defined-unique = by-equation _ _
+
+pub signal-holds-unique : OneAnswer signal-holds.Post
+signal-holds-unique = by-equation _ _

@@ -1,0 +1,20 @@
+-- No second answer meets a contract of this crate, and none leaves lent memory otherwise. Assumes nothing.
+use Prim.Native.Nat.{ℕ}
+use mathlib.Core.List.{List}
+use denote.Ref.{now}
+use Rattle.rules.specs.Unique.{OneAnswer, OneOutcome}
+use Rattle.rules.proofs.Unique.{by-equation, by-pair}
+use Rattle.session.specs.Lent.{Rooms, roomsOf}
+use Rattle.c_session.proofs.steps.bulitampaw_fresh_session.Reads as fresh-session
+use Rattle.c_session.proofs.steps.bulitampaw_step.Reads as step
+
+pub fresh-session-unique : OneAnswer fresh-session.Post
+fresh-session-unique = by-equation _ _
+
+pub step-unique : OneOutcome {Memory = Rooms × List ℕ}
+    (λ k exit. (roomsOf (now (exit .1 .1 .1 .1 .0)) (now (exit .1 .1 .1 .1 .1 .0)) (now (exit .1 .1 .1 .1 .1 .1 .0)) (now (exit .1 .1 .1 .1 .1 .1 .1 .0)) (now (exit .1 .1 .1 .1 .1 .1 .1 .1 .0)), now (exit .1 .1 .1 .1 .1 .1 .1 .1 .1 .0)))
+    step.Post
+step-unique =
+    by-pair {Memory = Rooms × List ℕ} _
+    (λ k exit. (roomsOf (now (exit .1 .1 .1 .1 .0)) (now (exit .1 .1 .1 .1 .1 .0)) (now (exit .1 .1 .1 .1 .1 .1 .0)) (now (exit .1 .1 .1 .1 .1 .1 .1 .0)) (now (exit .1 .1 .1 .1 .1 .1 .1 .1 .0)), now (exit .1 .1 .1 .1 .1 .1 .1 .1 .1 .0)))
+    _

@@ -1,0 +1,196 @@
+// What C calls on a session: one record at a time, and its text.
+ghost use mathlib.Core.Path.{_≡_};
+ghost use mathlib.Core.Bool.{not};
+ghost use lib.Dec.{eqb};
+ghost use Rattle.rules.specs.Checked.{verdict};
+ghost use Rattle.session_listing.specs.Text.{said};
+ghost use Rattle.session_answers.specs.Came.{told};
+ghost use Rattle.session_rooms.specs.Rooms.{lentFaults};
+ghost use Rattle.session.specs.Held.{empty};
+ghost use Rattle.session.specs.Lent.{roomsOf, sessionOf};
+ghost use Rattle.c_session.specs.Steps.{entryRefusal, cameTo, stepInNumbers};
+ghost use Rattle.c_session.specs.Inner.{putEntry, putText, orText};
+use session_answers::Answer;
+use session_listing::entry::Entry;
+use session_listing::render::Rendered;
+use session_listing::render::render;
+use c_numbers::Refused;
+use c_numbers::nothing;
+use c_numbers::refused_by;
+use refusals::Fit;
+use refusals::Refusal;
+use session_rooms::Counts;
+use session_rooms::fit;
+use session::session::Session;
+use session::step::step;
+
+// What a step answers: where the next record starts, how many bytes of text were put, the refusal, and what it comes to.
+#[repr(C)]
+pub struct Stepped {
+    pub session: Session,
+    pub next: usize,
+    pub text: usize,
+    pub refusal: Refused,
+    pub came: u32,
+}
+
+// What a step comes to, and the refusal that it lists or is answered by.
+pub struct CameTo {
+    pub came: u32,
+    pub refusal: Refused,
+}
+
+// A session before its first record.
+#[no_mangle]
+pub extern "C" fn bulitampaw_fresh_session() -> Session
+    ensures { λ r. ⌜ r ≡ sessionOf empty ⌝ }
+{
+    Session::new()
+}
+
+// The refusal that an entry lists.
+fn entry_refusal(entry: Entry) -> Refused
+    ensures { λ r. ⌜ r ≡ entryRefusal (said entry) ⌝ }
+{
+    match entry {
+        Entry::Ok => nothing(),
+        Entry::At { x: _, y: _ } => nothing(),
+        Entry::Line { y: _, width: _ } => nothing(),
+        Entry::Refused(refusal) => refused_by(refusal),
+    }
+}
+
+// What an answer comes to.
+fn came_to(answer: Answer) -> CameTo
+    ensures { λ r. ⌜ r ≡ cameTo (told answer) ⌝ }
+{
+    match answer {
+        Answer::Refused(refusal) => CameTo {
+            came: 0,
+            refusal: refused_by(refusal),
+        },
+        Answer::Listed(entry) => CameTo {
+            came: 1,
+            refusal: entry_refusal(entry),
+        },
+        Answer::End => CameTo {
+            came: 2,
+            refusal: nothing(),
+        },
+        Answer::More => CameTo {
+            came: 3,
+            refusal: nothing(),
+        },
+        Answer::Stopped(refusal) => CameTo {
+            came: 4,
+            refusal: refused_by(refusal),
+        },
+    }
+}
+
+// An entry's text at the front, where there is room. Answers how many bytes were put.
+fn put_entry(entry: Entry, output: &[u32], text: &mut [u8]) -> usize
+    ensures { λ r. ⌜ (r, now (text .exit)) ≡ putEntry (said entry) (now (output .entry)) (now (text .entry)) ⌝ }
+{
+    match render(entry, output, text, 0) {
+        Rendered::To(end) => end,
+        Rendered::NoRoom => 0,
+    }
+}
+
+// The text of what an answer lists, where there is room. Answers how many bytes were put.
+fn put_text(answer: Answer, output: &[u32], text: &mut [u8]) -> usize
+    ensures { λ r. ⌜ (r, now (text .exit)) ≡ putText (told answer) (now (output .entry)) (now (text .entry)) ⌝ }
+{
+    match answer {
+        Answer::Listed(entry) => put_entry(entry, output, text),
+        Answer::Stopped(refusal) => put_entry(Entry::Refused(refusal), output, text),
+        Answer::End => 0,
+        Answer::More => 0,
+        Answer::Refused(_) => 0,
+    }
+}
+
+// Why a step whose text is too short is refused: 11 and 5 by the rooms, else 5 at place 6.
+fn short_of_text(
+    held: Counts,
+    store: usize,
+    table: usize,
+    normal: usize,
+    overlay: usize,
+    output: usize,
+) -> Refused
+    ensures { λ r. ⌜ r ≡ orText (verdict (lentFaults held store table normal overlay output)) ⌝ }
+{
+    let fits = fit(held, store, table, normal, overlay, output);
+    match fits {
+        Fit::Refused(refusal) => refused_by(refusal),
+        Fit::Yes => Refused {
+            number: 5,
+            place: 6,
+        },
+    }
+}
+
+// The record at a place of some bytes, on the lent store, table, rows and output, and its text. A last other than 0 says that the file ends with these bytes.
+#[no_mangle]
+pub extern "C" fn bulitampaw_step(
+    session: Session,
+    bytes: &[u8],
+    place: usize,
+    last: u32,
+    store: &mut [u32],
+    table: &mut [u8],
+    normal: &mut [u8],
+    overlay: &mut [u8],
+    output: &mut [u32],
+    text: &mut [u8],
+) -> Stepped
+    ensures { λ r. ⌜ (r, (roomsOf (now (store .exit)) (now (table .exit)) (now (normal .exit)) (now (overlay .exit)) (now (output .exit)), now (text .exit))) ≡ stepInNumbers session (roomsOf (now (store .entry)) (now (table .entry)) (now (normal .entry)) (now (overlay .entry)) (now (output .entry))) (now (text .entry)) (now (bytes .entry)) place (not (eqb last 0)) ⌝ }
+{
+    if text.len() < 14368 {
+        let held = Counts {
+            table: session.table,
+            normal: session.normal,
+            overlay: session.overlay,
+        };
+        let refusal = short_of_text(
+            held,
+            store.len(),
+            table.len(),
+            normal.len(),
+            overlay.len(),
+            output.len(),
+        );
+        return Stepped {
+            session,
+            next: place,
+            text: 0,
+            refusal,
+            came: 0,
+        };
+    }
+    let stepped = step(
+        session,
+        bytes,
+        place,
+        last != 0,
+        store,
+        table,
+        normal,
+        overlay,
+        output,
+    );
+    let answer = stepped.answer;
+    let put = put_text(answer, output, text);
+    let came = came_to(answer);
+    let refusal = came.refusal;
+    let next = stepped.session;
+    Stepped {
+        session: next,
+        next: stepped.place,
+        text: put,
+        refusal,
+        came: came.came,
+    }
+}

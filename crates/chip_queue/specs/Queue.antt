@@ -1,0 +1,51 @@
+-- The queue: of 64 slots the first ones hold the colour writes that wait, the oldest in slot 0.
+use Prim.Native.Nat.{ℕ, _+_, _-_}
+use mathlib.Core.Path.{_≡_}
+use mathlib.Core.Bool.{Bool, cond}
+use mathlib.Core.List.{List, [], _∷_, _++_}
+use lib.Dec.{leb}
+use lib.ListN.{length, getD, set, take, drop, replicate}
+use Rattle.chip_queue.specs.declared.Waiting.{Waiting}
+use Rattle.chip_queue.specs.declared.Queue.{Queue}
+
+-- how many writes can wait
+abbrev pub depth : ℕ
+depth = 64
+
+-- what a slot holds that never held a write
+abbrev pub zeroSlot : Waiting
+zeroSlot = record { entry = 0; colour = 0 }
+
+-- there are 64 slots: the array of the code has them, where a definition sees a list
+abbrev pub Sized : Queue → Type 0
+Sized queue = length (queue .slots) ≡ depth
+
+-- nothing waits, and every slot is zero
+abbrev pub empty : Queue
+empty = record { waiting = 0; slots = replicate depth zeroSlot }
+
+-- the writes that wait, the oldest first
+abbrev pub waitingIn : Queue → List Waiting
+waitingIn queue = take (queue .waiting) (queue .slots)
+
+-- room is 64 less waiting, and 0 where more wait than that
+abbrev pub room : Queue → ℕ
+room queue = depth - queue .waiting
+
+-- 64 wait, or in a bad state more
+unfoldable pub full : Queue → Bool
+full queue = leb depth (queue .waiting)
+
+-- the write in slot 0
+abbrev pub oldest : Queue → Waiting
+oldest queue = getD (queue .slots) 0 zeroSlot
+
+-- one more write, behind those that wait; a full queue stays as it is
+unfoldable pub pushed : Queue → Waiting → Queue
+pushed queue write =
+    cond (full queue) queue
+    (record { waiting = queue .waiting + 1; slots = set (queue .slots) (queue .waiting) write })
+
+-- the oldest leaves, every other slot moves up by one, and the last becomes zero
+abbrev pub popped : Queue → Queue
+popped queue = record { waiting = queue .waiting - 1; slots = drop 1 (queue .slots) ++ (zeroSlot ∷ []) }

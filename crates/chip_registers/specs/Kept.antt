@@ -1,0 +1,36 @@
+-- The bits that a register keeps.
+use Prim.Native.Nat.{ℕ, _+_, _*_, _^_}
+use mathlib.Core.Bool.{Bool, cond}
+use lib.Dec.{eqb}
+use Rattle.words.specs.Field.{field}
+use Rattle.chip_registers.specs.declared.Block.{Block}
+use Rattle.chip_registers.specs.declared.Block.the-variants.{Control, WindowEntries, ColourMap, GammaMap, CursorGlyph, CursorColours}
+use Rattle.chip_registers.specs.declared.Register.{Register}
+
+-- a value with its bits high..low alone
+abbrev pub only : ℕ → ℕ → ℕ → ℕ
+only value high low = field value high low * 2 ^ low
+
+-- of a control word its fields: word 0 has five switches, word 7 two fields of 11 bits, the others two of 12; words 9 and 10 are never written
+unfoldable pub keptOfControl : ℕ → ℕ → ℕ
+keptOfControl word value =
+    cond (eqb word 0) (only value 4 0)
+    (cond (eqb word 7) (only value 26 16 + only value 10 0)
+    (only value 27 16 + only value 11 0))
+
+-- of a window entry 13 bits, of a glyph word all, of the other words 24
+abbrev pub keptIn : Block → ℕ → ℕ → ℕ
+keptIn Control word value = keptOfControl word value
+keptIn WindowEntries word value = only value 12 0
+keptIn ColourMap word value = only value 23 0
+keptIn GammaMap word value = only value 23 0
+keptIn CursorGlyph word value = only value 31 0
+keptIn CursorColours word value = only value 23 0
+
+-- a value with the bits alone that a register keeps
+abbrev pub keptOf : Register → ℕ → ℕ
+keptOf register value = keptIn (register .block) (register .word) value
+
+-- a value has no other bits
+unfoldable pub fits : Register → ℕ → Bool
+fits register value = eqb (keptOf register value) value

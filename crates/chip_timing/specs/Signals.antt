@@ -1,0 +1,26 @@
+-- The signals of a position: horizontal and vertical sync, and blank.
+use Prim.Native.Nat.{ℕ}
+use mathlib.Core.Bool.{Bool, _||_}
+use lib.Dec.{eqb}
+use Rattle.words.specs.Field.{field}
+use Rattle.chip_timing.specs.Window.{inWindow}
+use Rattle.chip_timing.specs.declared.Position.{Position}
+use Rattle.chip_timing.specs.declared.Windows.{Windows}
+use Rattle.chip_timing.specs.declared.Signals.{Signals}
+
+-- whether p is in the window of a control word, which has on in 11..0 and off in 27..16
+unfoldable pub holds : ℕ → ℕ → Bool
+holds word p = inWindow (field word 11 0) (field word 27 16) p
+
+-- the window of a control word is empty: on and off are equal
+unfoldable pub isEmpty : ℕ → Bool
+isEmpty word = eqb (field word 11 0) (field word 27 16)
+
+-- horizontal windows go by x and vertical ones by y; blank is either
+unfoldable pub signalsAt : Windows → Position → Signals
+signalsAt windows at =
+    record {
+      hsync = holds (windows .hsync) (at .x);
+      vsync = holds (windows .vsync) (at .y);
+      blank = holds (windows .hblank) (at .x) || holds (windows .vblank) (at .y);
+    }

@@ -1,0 +1,46 @@
+-- The tests of the decoder, one after another: what each says of what an entry is. Assumes nothing.
+use Prim.Native.Nat.{ℕ}
+use mathlib.Core.Path.{_≡_, sym}
+use mathlib.Core.Bool.{true, false}
+use borrow.Author.Tests.{eq-eqb, ne-eqb}
+use Rattle.words.specs.Field.{field}
+use Rattle.line_formats.specs.Table.{numbered, partAt, hasDepth, hasBuffer, hasBank}
+use Rattle.line_formats.specs.declared.Format.{Format}
+use Rattle.line_formats.specs.declared.Numbered.the-variants.{Is, Undefined as NoFormat}
+use Rattle.line_colour.specs.Entry.{said, decoded}
+use Rattle.line_colour.specs.declared.entry.Decoded.the-variants.{Defined, Undefined}
+
+module _ (entry depth : ℕ) where
+  -- a spare bit is set
+  pub spare-bits : (field entry 12 11 ≡ 0 → ⊥) → Undefined ≡ decoded entry depth
+  unfolding decoded
+  spare-bits set = sym (rw (ne-eqb (field entry 12 11) 0 set))
+
+  module _ (clear : field entry 12 11 ≡ 0) where
+    -- the number names no format
+    pub no-format : numbered (field entry 3 1) ≡ NoFormat → Undefined ≡ decoded entry depth
+    unfolding decoded
+    no-format none = sym (rw (eq-eqb (field entry 12 11) 0 clear, none))
+
+    module _ {format : Format} (named : numbered (field entry 3 1) ≡ Is format) where
+      -- the format is not listed at the depth
+      pub no-depth : false ≡ hasDepth (partAt format depth) → Undefined ≡ decoded entry depth
+      unfolding decoded
+      no-depth none = sym (rw (eq-eqb (field entry 12 11) 0 clear, named, ← none))
+
+      module _ (at-depth : true ≡ hasDepth (partAt format depth)) where
+        -- it is, and without the buffer
+        pub no-buffer : false ≡ hasBuffer (partAt format depth) (field entry 0 0) → Undefined ≡ decoded entry depth
+        unfolding decoded
+        no-buffer none = sym (rw (eq-eqb (field entry 12 11) 0 clear, named, ← at-depth, ← none))
+
+        module _ (in-buffer : true ≡ hasBuffer (partAt format depth) (field entry 0 0)) where
+          -- it is, with the buffer and without the bank
+          pub no-bank : false ≡ hasBank format (field entry 8 4) → Undefined ≡ decoded entry depth
+          unfolding decoded
+          no-bank none = sym (rw (eq-eqb (field entry 12 11) 0 clear, named, ← at-depth, ← in-buffer, ← none))
+
+          -- every test is passed
+          pub is-defined : true ≡ hasBank format (field entry 8 4) → Defined (said entry depth format) ≡ decoded entry depth
+          unfolding decoded
+          is-defined in-bank = sym (rw (eq-eqb (field entry 12 11) 0 clear, named, ← at-depth, ← in-buffer, ← in-bank))

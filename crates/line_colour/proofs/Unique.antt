@@ -1,0 +1,15 @@
+-- No second answer meets a contract of this crate. Assumes nothing.
+use Rattle.rules.specs.Unique.{OneAnswer}
+use Rattle.rules.proofs.Unique.{by-equation}
+use Rattle.line_colour.proofs.entry.decode.Reads as decode
+use Rattle.line_colour.proofs.entry.Entry.shown.Reads as shown
+use Rattle.line_colour.proofs.gamma.corrected.Reads as corrected
+
+pub decode-unique : OneAnswer decode.Post
+decode-unique = by-equation _ _
+
+pub shown-unique : OneAnswer shown.Post
+shown-unique = by-equation _ _
+
+pub corrected-unique : OneAnswer corrected.Post
+corrected-unique = by-equation _ _

@@ -1,0 +1,169 @@
+-- `line_colour::entry::decode` meets its contract: each return follows from the tests before it. Assumes nothing.
+use Prim.Native.Nat.{ℕ}
+use mathlib.Core.Path.{_≡_, sym, ap, ap₂, _∙_}
+use mathlib.Core.Bool.{true}
+use borrow.Author.Tests.{not-true, not-false}
+use borrow.Author.Needs.{needs}
+use Rattle.words.specs.Field.{field}
+use Rattle.line_formats.specs.Table.{numbered, partAt, hasDepth, hasBuffer, hasBank}
+use Rattle.line_formats.specs.declared.Format.{Format}
+use Rattle.line_formats.specs.declared.Numbered.the-variants.{Is}
+use Rattle.line_colour.proofs.Decode.{spare-bits, no-format, no-depth, no-buffer, no-bank, is-defined}
+use Rattle.line_colour.proofs.entry.decode.Statement.{statement}
+use Rattle.line_colour.proofs.entry.decode.Tie as tie
+
+-- the spare bits are clear
+clear : (c : tie.Else1) → field (c .before .before .before .before .before .args .entry) 12 11 ≡ 0
+clear c = sym (c .before .field4 .ensures .0) ∙ c .if1 .left
+
+-- what the entry's number names
+number-names : (c : tie.After-from-number) → c .from-number .result ≡ numbered (field (c .before .before .before .before .before .before .args .entry) 3 1)
+number-names c = c .from-number .ensures ∙ ap numbered (c .before .before .before .before .field2 .ensures .0)
+
+-- from where the format is known: the entry, the depth and the format
+abbrev entry-of : (c : tie.After-format) → ℕ
+entry-of c = c .before .before .before .before .before .before .before .before .args .entry
+
+abbrev depth-of : (c : tie.After-format) → ℕ
+depth-of c = c .before .before .before .before .before .before .before .before .args .depth
+
+abbrev format-of : (c : tie.After-format) → Format
+format-of c = c .format .given .0 .0
+
+clear-there : (c : tie.After-format) → field (entry-of c) 12 11 ≡ 0
+clear-there c = clear (c .before .before .before)
+
+named : (c : tie.After-format) → numbered (field (entry-of c) 3 1) ≡ Is (format-of c)
+named c = sym (number-names (c .before .before)) ∙ c .format .given .1
+
+-- what the three last tests say
+depth-says : (c : tie.After-has-depth)
+    → c .has-depth .result ≡ hasDepth (partAt (format-of (c .before .before .before)) (depth-of (c .before .before .before)))
+depth-says c = c .has-depth .ensures ∙ ap hasDepth (c .before .part .ensures)
+
+buffer-says : (c : tie.After-has-buffer)
+    → let f = c .before .before .before .before .before in
+    c .has-buffer .result ≡ hasBuffer (partAt (format-of f) (depth-of f)) (field (entry-of f) 0 0)
+buffer-says c =
+    let f = c .before .before .before .before .before in
+    c .has-buffer .ensures ∙ ap₂ hasBuffer (c .before .before .before .part .ensures) (f .before .before .before .before .before .before .before .field .ensures .0)
+
+at-depth : (c : tie.Else2) → let f = c .before .before .before .before in true ≡ hasDepth (partAt (format-of f) (depth-of f))
+at-depth c = sym (not-false _ (c .if2 .left)) ∙ depth-says (c .before)
+
+bank-says : (c : tie.After-has-bank)
+    → let f = c .before .before .before .before .before .before .before in
+    c .has-bank .result ≡ hasBank (format-of f) (field (entry-of f) 8 4)
+bank-says c =
+    let f = c .before .before .before .before .before .before .before in
+    c .has-bank .ensures ∙ ap (λ (bank : ℕ). hasBank (format-of f) bank) (f .before .before .before .before .before .field3 .ensures .0)
+
+in-buffer : (c : tie.Else3)
+    → let f = c .before .before .before .before .before .before in true ≡ hasBuffer (partAt (format-of f) (depth-of f)) (field (entry-of f) 0 0)
+in-buffer c = sym (not-false _ (c .if3 .left)) ∙ buffer-says (c .before)
+
+field-requires : tie.Need-field-requires
+field-requires c κs = search needs
+
+field-requires-2 : tie.Need-field-requires-2
+field-requires-2 c κs = search needs
+
+field-requires-3 : tie.Need-field-requires-3
+field-requires-3 c κs = search needs
+
+field-requires-4 : tie.Need-field-requires-4
+field-requires-4 c κs = search needs
+
+returns : tie.Need-returns
+returns c =
+    let a = c .before .before .before .before .before .args in
+    spare-bits (a .entry) (a .depth) (λ e. c .if1 .taken (c .before .field4 .ensures .0 ∙ e))
+
+from-number-requires : tie.Need-from-number-requires
+from-number-requires c κs = search needs
+
+enum-known-format : tie.Need-enum-known-format
+enum-known-format c = search needs
+
+enum-told : tie.Need-enum-told
+enum-told c = search needs
+
+returns-2 : tie.Need-returns-2
+returns-2 c =
+    let a = c .before .before .before .before .before .before .before .before .args in
+    no-format (a .entry) (a .depth) (clear (c .before .before .before)) (sym (number-names (c .before .before)) ∙ c .enum-told .given .1)
+
+part-requires : tie.Need-part-requires
+part-requires c κs = search needs
+
+has-depth-requires : tie.Need-has-depth-requires
+has-depth-requires c κs = search needs
+
+returns-3 : tie.Need-returns-3
+returns-3 c =
+    let f = c .before .before .before .before in
+    no-depth (entry-of f) (depth-of f) (clear-there f) (named f) (sym (not-true _ (c .if2 .taken)) ∙ depth-says (c .before))
+
+has-buffer-requires : tie.Need-has-buffer-requires
+has-buffer-requires c κs = search needs
+
+returns-4 : tie.Need-returns-4
+returns-4 c =
+    let f = c .before .before .before .before .before .before in
+    no-buffer (entry-of f) (depth-of f) (clear-there f) (named f) (at-depth (c .before .before))
+    (sym (not-true _ (c .if3 .taken)) ∙ buffer-says (c .before))
+
+has-bank-requires : tie.Need-has-bank-requires
+has-bank-requires c κs = search needs
+
+returns-5 : tie.Need-returns-5
+returns-5 c =
+    let f = c .before .before .before .before .before .before .before .before in
+    no-bank (entry-of f) (depth-of f) (clear-there f) (named f) (at-depth (c .before .before .before .before)) (in-buffer (c .before .before))
+    (sym (not-true _ (c .if4 .taken)) ∙ bank-says (c .before))
+
+low-bit-requires : tie.Need-low-bit-requires
+low-bit-requires c κs = search needs
+
+cast-t13 : tie.Need-cast-t13
+cast-t13 c = search needs
+
+field-requires-5 : tie.Need-field-requires-5
+field-requires-5 c κs = search needs
+
+field-requires-6 : tie.Need-field-requires-6
+field-requires-6 c κs = search needs
+
+returns-6 : tie.Need-returns-6
+returns-6 c =
+    let f = c .before .before .before .before .before .before .before .before .before .before .before in
+    rw (c .before .before .low-bit .ensures, f .before .before .before .before .before .before .before .field .ensures .0, f .before .before .before .before .before .field3 .ensures .0, c .before .field5 .ensures .0, c .field6 .ensures .0)
+    (is-defined (entry-of f) (depth-of f) (clear-there f) (named f) (at-depth (c .before .before .before .before .before .before .before))
+    (in-buffer (c .before .before .before .before .before))
+    (sym (not-false _ (c .before .before .before .if4 .left)) ∙ bank-says (c .before .before .before .before)))
+
+pub decode-spec : {M : Type 1} → statement M
+decode-spec =
+    tie.close
+    (tie.spec
+    field-requires
+    field-requires-2
+    field-requires-3
+    field-requires-4
+    returns
+    from-number-requires
+    enum-known-format
+    enum-told
+    returns-2
+    part-requires
+    has-depth-requires
+    returns-3
+    has-buffer-requires
+    returns-4
+    has-bank-requires
+    returns-5
+    low-bit-requires
+    cast-t13
+    field-requires-5
+    field-requires-6
+    returns-6)

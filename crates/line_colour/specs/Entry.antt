@@ -1,0 +1,63 @@
+-- What a window entry says at a depth: buffer in bit 0, format in 3..1, bank in 8..4, gamma bypass in 9, overlay allowed in 10, zero in 12..11.
+use Prim.Native.Nat.{ℕ, _/_}
+use mathlib.Core.Bool.{Bool, true, false, cond, not}
+use lib.Dec.{eqb}
+use Rattle.words.specs.Field.{field}
+use Rattle.line_formats.specs.Table.{numbered, partAt, hasDepth, hasBuffer, hasBank}
+use Rattle.line_formats.specs.declared.Format.{Format}
+use Rattle.line_formats.specs.declared.Numbered.{Numbered}
+use Rattle.line_formats.specs.declared.Numbered.the-variants.{Is, Undefined as NoFormat}
+use Rattle.line_colour.specs.declared.entry.Entry.{Entry}
+use Rattle.line_colour.specs.declared.entry.Decoded.{Decoded}
+use Rattle.line_colour.specs.declared.entry.Decoded.the-variants.{Defined, Undefined}
+
+-- its buffer
+abbrev pub bufferOf : ℕ → ℕ
+bufferOf entry = field entry 0 0
+
+-- its format's number
+abbrev pub formatOf : ℕ → ℕ
+formatOf entry = field entry 3 1
+
+-- its bank
+abbrev pub bankOf : ℕ → ℕ
+bankOf entry = field entry 8 4
+
+-- the bits that are zero in a defined entry
+abbrev pub spareOf : ℕ → ℕ
+spareOf entry = field entry 12 11
+
+-- the lowest bit of a buffer: buffer 0 is the low half, 1 the high
+abbrev pub lowOf : ℕ → ℕ → ℕ
+lowOf depth buffer = cond (eqb buffer 0) 0 (depth / 2)
+
+-- what a defined entry of this format says; of its buffer the lowest bit
+abbrev pub said : ℕ → ℕ → Format → Entry
+said entry depth format =
+    record {
+      format = format;
+      low = lowOf depth (bufferOf entry);
+      bank = bankOf entry;
+      bypass = eqb (field entry 9 9) 1;
+      overlay = eqb (field entry 10 10) 1;
+    }
+
+-- what follows from the format that a number names
+abbrev pub withFormat : Numbered → (Format → Decoded) → Decoded
+withFormat NoFormat next = Undefined
+withFormat (Is format) next = next format
+
+-- an entry is tested for its spare bits, its format, its depth, its buffer and its bank, in this order
+unfoldable pub decoded : ℕ → ℕ → Decoded
+decoded entry depth =
+    cond (not (eqb (spareOf entry) 0)) Undefined
+    (withFormat (numbered (formatOf entry)) (λ format.
+    cond (not (hasDepth (partAt format depth))) Undefined
+    (cond (not (hasBuffer (partAt format depth) (bufferOf entry))) Undefined
+    (cond (not (hasBank format (bankOf entry))) Undefined
+    (Defined (said entry depth format))))))
+
+-- whether what the decoder answers is a defined entry
+unfoldable pub isDefined : Decoded → Bool
+isDefined (Defined entry) = true
+isDefined Undefined = false

@@ -1,0 +1,91 @@
+// Window entries: what an entry says at a depth, and what a sample then shows.
+ghost use mathlib.Core.Path.{_≡_};
+ghost use Rattle.line_colour.specs.Entry.{lowOf, decoded};
+ghost use Rattle.line_colour.specs.Shown.{shownOf};
+use line_formats::Format;
+use line_formats::Index8;
+use line_formats::Index12;
+use line_formats::Numbered;
+use line_formats::Rgb332;
+use line_formats::Rgb444;
+use line_formats::Rgb555;
+use line_formats::Rgb888;
+use words::Rgb;
+
+// What a defined entry says: the format, the lowest bit of the buffer, the bank, and two switches.
+pub struct Entry {
+    pub format: Format,
+    pub low: u32,
+    pub bank: u8,
+    pub bypass: bool,
+    pub overlay: bool,
+}
+
+// What an entry says, or that it is undefined.
+pub enum Decoded {
+    Defined(Entry),
+    Undefined,
+}
+
+// What a sample shows: an entry of the colour map, or a colour of its own.
+pub enum Shown {
+    MapEntry(u32),
+    Colour(Rgb),
+}
+
+// The lowest bit of a buffer.
+fn low_bit(depth: u32, buffer: u32) -> u32
+    ensures { λ r. ⌜ r ≡ lowOf depth buffer ⌝ }
+{
+    if buffer == 0 { 0 } else { depth / 2 }
+}
+
+// What an entry says at a depth.
+pub fn decode(entry: u32, depth: u32) -> Decoded
+    ensures { λ r. ⌜ r ≡ decoded entry depth ⌝ }
+{
+    let buffer = words::field(entry, 0, 0);
+    let number = words::field(entry, 3, 1);
+    let bank = words::field(entry, 8, 4);
+    let spare = words::field(entry, 12, 11);
+    if spare != 0 {
+        return Decoded::Undefined;
+    }
+    let Numbered::Is(format) = Format::from_number(number) else {
+        return Decoded::Undefined;
+    };
+    let part = format.part(depth);
+    if !part.has_depth() {
+        return Decoded::Undefined;
+    }
+    if !part.has_buffer(buffer) {
+        return Decoded::Undefined;
+    }
+    if !format.has_bank(bank) {
+        return Decoded::Undefined;
+    }
+    Decoded::Defined(Entry {
+        format,
+        low: low_bit(depth, buffer),
+        bank: bank as u8,
+        bypass: words::field(entry, 9, 9) == 1,
+        overlay: words::field(entry, 10, 10) == 1,
+    })
+}
+
+impl Entry {
+    // What a sample shows.
+    pub fn shown(self, sample: u32) -> Shown
+        ensures { λ r. ⌜ r ≡ shownOf self sample ⌝ }
+    {
+        let format = self.format;
+        match format {
+            Format::Index8 => Shown::MapEntry(Index8::map_entry(self.bank, sample)),
+            Format::Index12 => Shown::MapEntry(Index12::map_entry(sample)),
+            Format::Rgb332 => Shown::Colour(Rgb332::colour(sample)),
+            Format::Rgb444 => Shown::Colour(Rgb444::colour(sample)),
+            Format::Rgb555 => Shown::Colour(Rgb555::colour(sample)),
+            Format::Rgb888 => Shown::Colour(Rgb888::colour(sample)),
+        }
+    }
+}

@@ -1,0 +1,276 @@
+// Pixel formats: a type for each, with its bits.
+mod channel;
+
+ghost use Prim.Native.Nat.{_+_, _*_};
+ghost use mathlib.Core.Path.{_≡_};
+ghost use Rattle.line_formats.specs.Table.{numbered, widthsOf, partAt, hasDepth, hasBuffer, hasBank, valueOf, colourIn};
+use words::Rgb;
+
+// Format 0: an 8-bit index within a bank of the map.
+pub struct Index8;
+
+impl Index8 {
+    pub const BITS: u32 = 8;
+
+    pub const RED: u32 = 0;
+
+    pub const GREEN: u32 = 0;
+
+    pub const BLUE: u32 = 0;
+
+    // The map entry of a sample, in a bank.
+    pub fn map_entry(bank: u8, sample: u32) -> u32
+        ensures { λ r. ⌜ r ≡ 256 * bank + valueOf Format.Index8 sample ⌝ }
+    {
+        256 * (bank as u32) + words::bits(sample, 0, Self::BITS)
+    }
+}
+
+// Format 1: a 12-bit index of the map.
+pub struct Index12;
+
+impl Index12 {
+    pub const BITS: u32 = 12;
+
+    pub const RED: u32 = 0;
+
+    pub const GREEN: u32 = 0;
+
+    pub const BLUE: u32 = 0;
+
+    // The map entry of a sample.
+    pub fn map_entry(sample: u32) -> u32
+        ensures { λ r. ⌜ r ≡ valueOf Format.Index12 sample ⌝ }
+    {
+        words::bits(sample, 0, Self::BITS)
+    }
+}
+
+// Format 2: RGB 3-3-2.
+pub struct Rgb332;
+
+impl Rgb332 {
+    pub const BITS: u32 = 8;
+
+    pub const RED: u32 = 3;
+
+    pub const GREEN: u32 = 3;
+
+    pub const BLUE: u32 = 2;
+
+    // The colour of a sample.
+    pub fn colour(sample: u32) -> Rgb
+        ensures { λ r. ⌜ r ≡ colourIn Format.Rgb332 sample ⌝ }
+    {
+        channel::colour(sample, Self::RED, Self::GREEN, Self::BLUE)
+    }
+}
+
+// Format 3: RGB 4-4-4.
+pub struct Rgb444;
+
+impl Rgb444 {
+    pub const BITS: u32 = 12;
+
+    pub const RED: u32 = 4;
+
+    pub const GREEN: u32 = 4;
+
+    pub const BLUE: u32 = 4;
+
+    // The colour of a sample.
+    pub fn colour(sample: u32) -> Rgb
+        ensures { λ r. ⌜ r ≡ colourIn Format.Rgb444 sample ⌝ }
+    {
+        channel::colour(sample, Self::RED, Self::GREEN, Self::BLUE)
+    }
+}
+
+// Format 4: RGB 5-5-5.
+pub struct Rgb555;
+
+impl Rgb555 {
+    pub const BITS: u32 = 15;
+
+    pub const RED: u32 = 5;
+
+    pub const GREEN: u32 = 5;
+
+    pub const BLUE: u32 = 5;
+
+    // The colour of a sample.
+    pub fn colour(sample: u32) -> Rgb
+        ensures { λ r. ⌜ r ≡ colourIn Format.Rgb555 sample ⌝ }
+    {
+        channel::colour(sample, Self::RED, Self::GREEN, Self::BLUE)
+    }
+}
+
+// Format 5: RGB 8-8-8.
+pub struct Rgb888;
+
+impl Rgb888 {
+    pub const BITS: u32 = 24;
+
+    pub const RED: u32 = 8;
+
+    pub const GREEN: u32 = 8;
+
+    pub const BLUE: u32 = 8;
+
+    // The colour of a sample.
+    pub fn colour(sample: u32) -> Rgb
+        ensures { λ r. ⌜ r ≡ colourIn Format.Rgb888 sample ⌝ }
+    {
+        channel::colour(sample, Self::RED, Self::GREEN, Self::BLUE)
+    }
+}
+
+// The bits of a format: of a sample, and of each channel where it has channels.
+pub struct Widths {
+    pub bits: u32,
+    pub red: u32,
+    pub green: u32,
+    pub blue: u32,
+}
+
+// How much of a pixel a format uses at a depth.
+pub enum Part {
+    Half,
+    Whole,
+    Unlisted,
+}
+
+impl Part {
+    // Whether the depth is one that the format has.
+    pub fn has_depth(self) -> bool
+        ensures { λ r. ⌜ r ≡ hasDepth self ⌝ }
+    {
+        match self {
+            Part::Half => true,
+            Part::Whole => true,
+            Part::Unlisted => false,
+        }
+    }
+
+    // Whether a buffer is one that the format has: of a whole pixel there is buffer 0 alone.
+    pub fn has_buffer(self, buffer: u32) -> bool
+        ensures { λ r. ⌜ r ≡ hasBuffer self buffer ⌝ }
+    {
+        match self {
+            Part::Half => true,
+            Part::Whole => buffer == 0,
+            Part::Unlisted => false,
+        }
+    }
+}
+
+// The formats that the table lists.
+pub enum Format {
+    Index8,
+    Index12,
+    Rgb332,
+    Rgb444,
+    Rgb555,
+    Rgb888,
+}
+
+// What a format's number names.
+pub enum Numbered {
+    Is(Format),
+    Undefined,
+}
+
+impl Format {
+    // The format of an entry's number.
+    pub fn from_number(number: u32) -> Numbered
+        ensures { λ r. ⌜ r ≡ numbered number ⌝ }
+    {
+        match number {
+            0 => Numbered::Is(Format::Index8),
+            1 => Numbered::Is(Format::Index12),
+            2 => Numbered::Is(Format::Rgb332),
+            3 => Numbered::Is(Format::Rgb444),
+            4 => Numbered::Is(Format::Rgb555),
+            5 => Numbered::Is(Format::Rgb888),
+            _ => Numbered::Undefined,
+        }
+    }
+
+    // The bits of the format.
+    pub fn widths(self) -> Widths
+        ensures { λ r. ⌜ r ≡ widthsOf self ⌝ }
+    {
+        match self {
+            Format::Index8 => Widths {
+                bits: Index8::BITS,
+                red: Index8::RED,
+                green: Index8::GREEN,
+                blue: Index8::BLUE,
+            },
+            Format::Index12 => Widths {
+                bits: Index12::BITS,
+                red: Index12::RED,
+                green: Index12::GREEN,
+                blue: Index12::BLUE,
+            },
+            Format::Rgb332 => Widths {
+                bits: Rgb332::BITS,
+                red: Rgb332::RED,
+                green: Rgb332::GREEN,
+                blue: Rgb332::BLUE,
+            },
+            Format::Rgb444 => Widths {
+                bits: Rgb444::BITS,
+                red: Rgb444::RED,
+                green: Rgb444::GREEN,
+                blue: Rgb444::BLUE,
+            },
+            Format::Rgb555 => Widths {
+                bits: Rgb555::BITS,
+                red: Rgb555::RED,
+                green: Rgb555::GREEN,
+                blue: Rgb555::BLUE,
+            },
+            Format::Rgb888 => Widths {
+                bits: Rgb888::BITS,
+                red: Rgb888::RED,
+                green: Rgb888::GREEN,
+                blue: Rgb888::BLUE,
+            },
+        }
+    }
+
+    // Whether a bank is one that the format has.
+    pub fn has_bank(self, bank: u32) -> bool
+        ensures { λ r. ⌜ r ≡ hasBank self bank ⌝ }
+    {
+        match self {
+            Format::Index8 => bank <= 17,
+            Format::Index12 => true,
+            Format::Rgb332 => true,
+            Format::Rgb444 => true,
+            Format::Rgb555 => true,
+            Format::Rgb888 => true,
+        }
+    }
+
+    // How much of a pixel the format uses at a depth: a half where its bits fit one, else the whole where they fit that.
+    pub fn part(self, depth: u32) -> Part
+        ensures { λ r. ⌜ r ≡ partAt self depth ⌝ }
+    {
+        let bits = self.widths().bits;
+        match depth {
+            16 | 32 => {
+                if bits <= depth / 2 {
+                    Part::Half
+                } else if bits <= depth {
+                    Part::Whole
+                } else {
+                    Part::Unlisted
+                }
+            }
+            _ => Part::Unlisted,
+        }
+    }
+}

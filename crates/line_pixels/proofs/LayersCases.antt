@@ -1,0 +1,90 @@
+-- What a pixel shows, layer by layer. Assumes nothing.
+use Prim.Native.Nat.{ℕ, _+_, _≤_, _<_}
+use mathlib.Core.Path.{_≡_, refl, sym, ap, _∙_}
+use mathlib.Core.Bool.{true, false}
+use mathlib.Core.List.{List}
+use borrow.Author.Tests.{eq-eqb, ne-eqb}
+use Rattle.rules.specs.Rule.{value}
+use Rattle.rules.specs.Lists.{filled}
+use Rattle.rules.proofs.Value.{value-then}
+use Rattle.rules.proofs.Fill.{filled-same}
+use Rattle.words.specs.Channels.{wordOf}
+use Rattle.words.specs.declared.Rgb.{Rgb}
+use Rattle.line_formats.specs.Table.{widthsOf}
+use Rattle.line_colour.specs.Shown.{shownOf}
+use Rattle.line_colour.specs.declared.entry.Entry.{Entry}
+use Rattle.line_colour.specs.declared.entry.Shown.{Shown}
+use Rattle.line_colour.specs.declared.entry.Shown.the-variants.{MapEntry, Colour}
+use Rattle.line_pixels.specs.Cells.{PixelCell, cursorColour, overlayByte, sample, mapEntry}
+use Rattle.line_pixels.specs.Cursor.{cursorAt}
+use Rattle.line_pixels.specs.Colour.{ofCursor, ofOverlay, ofNormal, skipsGamma, throughGamma, shownColour, normalAt, plainAt, overlayColours, overlaid, overlayCounts, overlayAt, underCursor, cursorShown, colourOf}
+use Rattle.line_pixels.specs.declared.Screen.{Screen}
+
+module _ (memory : PixelCell → ℕ) (depth : ℕ) (entry : Entry) (x : ℕ) {word : ℕ} where
+  -- the normal colour by what the sample shows
+  normal-of : {shown : Shown} → shownOf entry (memory (sample depth x (entry .low) (widthsOf (entry .format) .bits))) ≡ shown
+      → word ≡ value memory (shownColour shown) → word ≡ value memory (normalAt depth entry x)
+  unfolding normalAt
+  normal-of shows is = is ∙ sym (ap (λ (s : Shown). value memory (shownColour s)) shows)
+
+  -- the sample shows an entry of the map
+  pub normal-of-map : {number : ℕ} → shownOf entry (memory (sample depth x (entry .low) (widthsOf (entry .format) .bits))) ≡ MapEntry number
+      → word ≡ memory (mapEntry number) → word ≡ value memory (normalAt depth entry x)
+  normal-of-map shows is = normal-of shows is
+
+  -- the sample shows a colour
+  pub normal-of-colour : {colour : Rgb} → shownOf entry (memory (sample depth x (entry .low) (widthsOf (entry .format) .bits))) ≡ Colour colour
+      → word ≡ wordOf colour → word ≡ value memory (normalAt depth entry x)
+  normal-of-colour shows is = normal-of shows is
+
+  -- a plain colour is the normal one through gamma
+  pub plain-of-normal : {normal : ℕ} → normal ≡ value memory (normalAt depth entry x) → word ≡ value memory (throughGamma (skipsGamma ofNormal entry) normal)
+      → word ≡ value memory (plainAt depth entry x)
+  unfolding plainAt
+  plain-of-normal of is = rw (value-then memory (normalAt depth entry x) (throughGamma (skipsGamma ofNormal entry)), ← of) is
+
+module _ (memory : PixelCell → ℕ) (screen : Screen) (entry : Entry) (x : ℕ) where
+  -- overlay counts
+  pub overlay-byte : overlayCounts screen entry ≡ true → memory (overlayByte x) ≡ value memory (overlayAt screen entry x)
+  unfolding overlayAt
+  overlay-byte counts = rw counts
+
+  -- overlay doesn't count
+  pub overlay-none : overlayCounts screen entry ≡ false → 0 ≡ value memory (overlayAt screen entry x)
+  unfolding overlayAt
+  overlay-none not-counts = rw not-counts
+
+  module _ {byte word : ℕ} (of : byte ≡ value memory (overlayAt screen entry x)) where
+    -- overlay is transparent
+    pub under-clear : byte ≡ 0 → word ≡ value memory (plainAt (screen .depth) entry x) → word ≡ value memory (underCursor screen entry x)
+    unfolding underCursor
+    under-clear none is = is ∙ sym (value-then memory (overlayAt screen entry x) _ ∙ rw (← of, eq-eqb byte 0 none))
+
+    -- overlay shows
+    pub under-overlay : (byte ≡ 0 → ⊥) → {mapped : ℕ} → mapped ≡ memory (mapEntry (overlayColours + byte))
+        → word ≡ value memory (throughGamma (skipsGamma ofOverlay entry) mapped) → word ≡ value memory (underCursor screen entry x)
+    unfolding underCursor overlaid
+    under-overlay some map is = rw map at is ∙ sym (value-then memory (overlayAt screen entry x) _ ∙ rw (← of, ne-eqb byte 0 some))
+
+  module _ {number word : ℕ} (of : number ≡ value memory (cursorAt screen x)) where
+    -- no cursor colour shows
+    pub colour-under : number ≡ 0 → word ≡ value memory (underCursor screen entry x) → word ≡ value memory (colourOf screen entry x)
+    unfolding colourOf
+    colour-under none is = is ∙ sym (value-then memory (cursorAt screen x) _ ∙ rw (← of, eq-eqb number 0 none))
+
+    -- one does
+    pub colour-of-cursor : (number ≡ 0 → ⊥) → {stored : ℕ} → stored ≡ memory (cursorColour number)
+        → word ≡ value memory (throughGamma (skipsGamma ofCursor entry) stored) → word ≡ value memory (colourOf screen entry x)
+    unfolding colourOf cursorShown
+    colour-of-cursor some holds is = rw holds at is ∙ sym (value-then memory (cursorAt screen x) _ ∙ rw (← of, ne-eqb number 0 some))
+
+  -- where neither cursor nor overlay shows, the colour is the plain one
+  pub colour-plain : overlayCounts screen entry ≡ false → value memory (cursorAt screen x) ≡ 0
+      → value memory (plainAt (screen .depth) entry x) ≡ value memory (colourOf screen entry x)
+  colour-plain none clear = colour-under (sym clear) refl (under-clear (overlay-none none) refl refl)
+
+  -- where it is at each pixel of a run, a run of plain colours is right
+  pub run-plain : (count : ℕ) (room : List ℕ) {out : List ℕ}
+      → ((p : ℕ) → x ≤ p → p < x + count → value memory (plainAt (screen .depth) entry p) ≡ value memory (colourOf screen entry p))
+      → out ≡ filled (λ p. value memory (plainAt (screen .depth) entry p)) x room count → out ≡ filled (λ p. value memory (colourOf screen entry p)) x room count
+  run-plain count room same is = is ∙ filled-same _ _ x room count same

@@ -1,0 +1,43 @@
+-- `line_pixels::Screen::colour_of` meets its contract: the cursor, or what is under it. Assumes nothing.
+use mathlib.Core.Path.{refl}
+use borrow.Author.Needs.{needs}
+use Rattle.line_pixels.specs.Cells.{pixelView}
+use Rattle.line_pixels.proofs.Gamma.{gamma-skipped}
+use Rattle.line_pixels.proofs.LayersCases.{colour-under, colour-of-cursor}
+use Rattle.line_pixels.proofs.Screen.colour_of.Statement.{statement}
+use Rattle.line_pixels.proofs.Screen.colour_of.Tie as tie
+
+cursor-at-requires : tie.Need-cursor-at-requires
+cursor-at-requires c κs = search needs
+
+under-cursor-requires : tie.Need-under-cursor-requires
+under-cursor-requires c κs = search needs
+
+returns : tie.Need-returns
+returns c =
+    let a = c .before .before .before .before .before .before .args in
+    colour-under (pixelView (a .store .now) (a .normal .now) (a .overlay .now)) (a .self) (a .entry) (a .x)
+    (c .before .before .cursor-at .ensures .0 (a .normal .now) (a .overlay .now))
+    (c .before .if1 .taken)
+    (c .under-cursor .ensures)
+
+sub-t11 : tie.Need-sub-t11
+sub-t11 c = search needs
+
+stored-requires : tie.Need-stored-requires
+stored-requires c κs = search needs
+
+returns-2 : tie.Need-returns-2
+returns-2 c =
+    let a = c .before .before .before .before .before .before .args in
+    let memory = pixelView (a .store .now) (a .normal .now) (a .overlay .now) in
+    colour-of-cursor memory (a .self) (a .entry) (a .x)
+    (c .before .before .cursor-at .ensures .0 (a .normal .now) (a .overlay .now))
+    (c .before .if1 .left)
+    (c .stored .ensures)
+    (gamma-skipped memory _ refl)
+
+pub colour-of-spec : {M : Type 1} → statement M
+colour-of-spec =
+    tie.close
+    (tie.spec cursor-at-requires under-cursor-requires returns sub-t11 stored-requires returns-2)

@@ -1,0 +1,74 @@
+// Runs of pixels with one window entry, each filled into words that are lent from its first pixel on.
+ghost use Prim.Native.Nat.{_+_, _*_, _/_, _≤_};
+ghost use mathlib.Core.Path.{_≡_};
+ghost use mathlib.Core.Bool.{true};
+ghost use lib.ListN.{length};
+ghost use Rattle.rules.specs.Rule.{value};
+ghost use Rattle.rules.specs.Lists.{filled};
+ghost use Rattle.chip_registers.specs.Store.{storeLength};
+ghost use Rattle.line_pixels.specs.Cells.{pixelView};
+ghost use Rattle.line_pixels.specs.Colour.{SaidAt, overlayCounts, colourOf};
+ghost use Rattle.line_pixels.specs.Inner.{OnlyPlain, FilledPlain};
+use crate::Screen;
+use crate::layers::plain_at;
+use crate::sampling::Sampling;
+use line_colour::entry::Entry;
+
+// A run where neither cursor nor overlay shows.
+fn fill_plain(
+    depth: u32,
+    entry: Entry,
+    store: &[u32],
+    normal: &[u8],
+    x: usize,
+    count: usize,
+    out: &mut [u32],
+)
+    requires { ⌜ SaidAt depth entry × (length (now store) ≡ storeLength) × ((x + count) * (depth / 8) ≤ length (now normal)) × (count ≤ length (now out)) ⌝ }
+    ensures { λ _. ⌜ FilledPlain depth entry (now (store .entry)) (now (normal .entry)) x count (now (out .entry)) (now (out .exit)) ⌝ }
+{
+    let sampling = Sampling::of(entry);
+    let mut i = 0;
+    while i < count {
+        out[i] = plain_at(depth, sampling, store, normal, x + i);
+        i += 1;
+    }
+}
+
+impl Screen {
+    // Whether neither cursor nor overlay shows at any of so many pixels from x on: then the plain colour does.
+    fn only_plain(self, entry: Entry, x: usize, count: usize) -> bool
+        requires { ⌜ x + count ≤ 65536 ⌝ }
+        ensures { λ r. ⌜ OnlyPlain self entry x count r ⌝ }
+    {
+        if self.overlay_counts(entry) {
+            return false;
+        }
+        !self.cursor_near(x, count)
+    }
+
+    // A run of so many pixels from x on.
+    pub fn fill(
+        self,
+        entry: Entry,
+        store: &[u32],
+        normal: &[u8],
+        overlay: &[u8],
+        x: usize,
+        count: usize,
+        out: &mut [u32],
+    )
+        requires { ⌜ SaidAt (self .depth) entry × (length (now store) ≡ storeLength) × (x + count ≤ 65536) × ((x + count) * (self .depth / 8) ≤ length (now normal)) × (overlayCounts self entry ≡ true → x + count ≤ length (now overlay)) × (count ≤ length (now out)) ⌝ }
+        ensures { λ _. ⌜ now (out .exit) ≡ filled (λ p. value (pixelView (now (store .entry)) (now (normal .entry)) (now (overlay .entry))) (colourOf self entry p)) x (now (out .entry)) count ⌝ }
+    {
+        if self.only_plain(entry, x, count) {
+            fill_plain(self.depth, entry, store, normal, x, count, out);
+            return;
+        }
+        let mut i = 0;
+        while i < count {
+            out[i] = self.colour_of(entry, store, normal, overlay, x + i);
+            i += 1;
+        }
+    }
+}

@@ -1,0 +1,149 @@
+// The layers: normal, overlay and cursor, and gamma.
+ghost use Prim.Native.Nat.{_+_, _*_, _/_, _≤_, _<_};
+ghost use mathlib.Core.Path.{_≡_};
+ghost use mathlib.Core.Bool.{true};
+ghost use mathlib.Core.Logic.{_⊎_};
+ghost use lib.ListN.{length};
+ghost use Rattle.rules.specs.Rule.{get, value};
+ghost use Rattle.chip_registers.specs.Store.{storeLength};
+ghost use Rattle.line_pixels.specs.Cells.{mapEntry, pixelWord, pixelView};
+ghost use Rattle.line_pixels.specs.Colour.{SaidAt, throughGamma, normalAt, plainAt, overlayCounts, overlayAt, underCursor, colourOf};
+ghost use Rattle.line_pixels.specs.Sampling.{samplingOf};
+ghost use Rattle.line_pixels.specs.Inner.{OverStore, OverNormal, OverOverlay};
+use crate::Screen;
+use crate::sampling::Sampling;
+use crate::store::stored;
+use line_colour::entry::Entry;
+use line_colour::entry::Shown;
+use chip_registers::Block;
+use chip_registers::Register;
+use words::Rgb;
+
+// A pixel of the normal row, all bits of it.
+fn pixel_word(depth: u32, normal: &[u8], x: usize) -> u32
+    requires { ⌜ ((depth ≡ 16) ⊎ (depth ≡ 32)) × ((x + 1) * (depth / 8) ≤ length (now normal)) ⌝ }
+    ensures { λ r. ⌜ r ≡ pixelWord depth (now (normal .entry)) x ⌝ }
+{
+    if depth == 32 {
+        return words::be32(normal, 4 * x);
+    }
+    words::be16(normal, 2 * x)
+}
+
+// A word of the colour map.
+fn mapped(store: &[u32], entry: u32) -> u32
+    requires { ⌜ (length (now store) ≡ storeLength) × (entry < 4608) ⌝ }
+    ensures { λ r. ⌜ OverStore (now (store .entry)) (get (mapEntry entry)) r ⌝ }
+{
+    let register = Register {
+        block: Block::ColourMap,
+        word: entry,
+    };
+    stored(store, register)
+}
+
+// The normal colour of a pixel.
+fn normal_at(depth: u32, sampling: Sampling, store: &[u32], normal: &[u8], x: usize) -> u32
+    requires { ⌜ SaidAt depth (sampling .entry) × (length (now store) ≡ storeLength) × ((x + 1) * (depth / 8) ≤ length (now normal)) × (sampling ≡ samplingOf (sampling .entry)) ⌝ }
+    ensures { λ r. ⌜ OverNormal (now (store .entry)) (now (normal .entry)) (normalAt depth (sampling .entry) x) r ⌝ }
+{
+    let pixel = pixel_word(depth, normal, x);
+    let sample = words::bits(pixel, sampling.entry.low, sampling.bits);
+    if sampling.indexed {
+        return mapped(store, sampling.base + sample);
+    }
+    let shown = sampling.entry.shown(sample);
+    match shown {
+        Shown::MapEntry(number) => mapped(store, number),
+        Shown::Colour(colour) => colour.word(),
+    }
+}
+
+// A colour through gamma, unless it skips it.
+fn through_gamma(store: &[u32], skips: bool, word: u32) -> u32
+    requires { ⌜ length (now store) ≡ storeLength ⌝ }
+    ensures { λ r. ⌜ OverStore (now (store .entry)) (throughGamma skips word) r ⌝ }
+{
+    if skips {
+        return word;
+    }
+    let corrected = line_colour::gamma::corrected(&store[4640..4896], Rgb::of(word));
+    corrected.word()
+}
+
+// The colour of a pixel where neither cursor nor overlay shows.
+pub(crate) fn plain_at(
+    depth: u32,
+    sampling: Sampling,
+    store: &[u32],
+    normal: &[u8],
+    x: usize,
+) -> u32
+    requires { ⌜ SaidAt depth (sampling .entry) × (length (now store) ≡ storeLength) × ((x + 1) * (depth / 8) ≤ length (now normal)) × (sampling ≡ samplingOf (sampling .entry)) ⌝ }
+    ensures { λ r. ⌜ OverNormal (now (store .entry)) (now (normal .entry)) (plainAt depth (sampling .entry) x) r ⌝ }
+{
+    let colour = normal_at(depth, sampling, store, normal, x);
+    through_gamma(store, sampling.entry.bypass, colour)
+}
+
+impl Screen {
+    // Whether overlay is looked at: the control word and the entry both say so.
+    pub(crate) fn overlay_counts(self, entry: Entry) -> bool
+        ensures { λ r. ⌜ r ≡ overlayCounts self entry ⌝ }
+    {
+        if self.overlay { entry.overlay } else { false }
+    }
+
+    // The overlay byte of a pixel, 0 where overlay doesn't count.
+    fn overlay_at(self, entry: Entry, overlay: &[u8], x: usize) -> u32
+        requires { ⌜ (overlayCounts self entry ≡ true → x < length (now overlay)) ⌝ }
+        ensures { λ r. ⌜ OverOverlay (now (overlay .entry)) (overlayAt self entry x) r × (r < 256) ⌝ }
+    {
+        if self.overlay_counts(entry) {
+            return overlay[x] as u32;
+        }
+        0
+    }
+
+    // The colour of a pixel where the cursor doesn't show.
+    fn under_cursor(
+        self,
+        entry: Entry,
+        store: &[u32],
+        normal: &[u8],
+        overlay: &[u8],
+        x: usize,
+    ) -> u32
+        requires { ⌜ SaidAt (self .depth) entry × (length (now store) ≡ storeLength) × ((x + 1) * (self .depth / 8) ≤ length (now normal)) × (overlayCounts self entry ≡ true → x < length (now overlay)) ⌝ }
+        ensures { λ r. ⌜ r ≡ value (pixelView (now (store .entry)) (now (normal .entry)) (now (overlay .entry))) (underCursor self entry x) ⌝ }
+    {
+        let byte = self.overlay_at(entry, overlay, x);
+        if byte == 0 {
+            return plain_at(self.depth, Sampling::of(entry), store, normal, x);
+        }
+        through_gamma(store, entry.bypass, mapped(store, 4352 + byte))
+    }
+
+    // The colour of a pixel.
+    pub(crate) fn colour_of(
+        self,
+        entry: Entry,
+        store: &[u32],
+        normal: &[u8],
+        overlay: &[u8],
+        x: usize,
+    ) -> u32
+        requires { ⌜ SaidAt (self .depth) entry × (length (now store) ≡ storeLength) × ((x + 1) * (self .depth / 8) ≤ length (now normal)) × (overlayCounts self entry ≡ true → x < length (now overlay)) ⌝ }
+        ensures { λ r. ⌜ r ≡ value (pixelView (now (store .entry)) (now (normal .entry)) (now (overlay .entry))) (colourOf self entry x) ⌝ }
+    {
+        let number = self.cursor_at(store, x);
+        if number == 0 {
+            return self.under_cursor(entry, store, normal, overlay, x);
+        }
+        let register = Register {
+            block: Block::CursorColours,
+            word: number - 1,
+        };
+        stored(store, register)
+    }
+}

@@ -1,0 +1,102 @@
+-- A refused line reads no cell that a colour comes from, and one that is refused before its first entry reads nothing. Assumes nothing.
+use Prim.Native.Nat.{ℕ}
+use mathlib.Core.Path.{_≡_, refl, sym, subst, ap, _∙_}
+use mathlib.Core.List.{List, [], _++_, List·Memᴰ, List·Memᴰ·not-nil}
+use Rattle.rules.specs.Rule.{Rule, Outcome, ok, refused, run, reads, _>>=_}
+use Rattle.rules.specs.Asks.{Asks, NeverRefuses}
+use Rattle.rules.specs.Faults.{Numbered}
+use Rattle.rules.specs.Checked.{checked, verdict}
+use Rattle.rules.proofs.Then.{run-ok, run-refused, reads-ok, reads-refused}
+use Rattle.rules.proofs.Asks.{asks-reads, asks-then, asks-cond, asks-any, asks-each, asks-within, never-each-of, refused-reads}
+use Rattle.rules.proofs.Checked.{run-checked, checked-reads}
+use Rattle.rules.proofs.Value.{never-within}
+use Rattle.line_colour.specs.Entry.{decoded}
+use Rattle.line_colour.specs.declared.entry.Entry.{Entry}
+use Rattle.line_windows.specs.Table.{TableCell}
+use Rattle.line_windows.specs.Frame.{lineTableOf}
+use Rattle.line_windows.specs.Ids.{idOf}
+use Rattle.line_pixels.specs.Colour.{colourOf}
+use Rattle.line_setup.specs.Faults.{lineFaults}
+use Rattle.line_setup.specs.declared.controls.Controls.{Controls}
+use Rattle.line_setup.specs.declared.setup.Setup.{Setup}
+use Rattle.line.specs.Screen.{screenIn}
+use Rattle.line.specs.Cells.{Cell, ofTable, ofColour, Lent, view}
+use Rattle.line.specs.Line.{inTable, startOf, idAt, entryAt, entriesOf, coloursOf, lineRule, lineOf}
+use Rattle.line.proofs.Defined.{asks-nothing}
+use Rattle.line_reads.specs.Listed.{NoColour}
+
+-- ---- the first pass asks for no other cell
+
+-- a rule over the table
+asks-table : {A : Type 0} (rule : Rule Numbered TableCell A) → Asks NoColour (inTable rule)
+asks-table rule = asks-within NoColour _ ofTable rule (asks-any _ (λ cell. tt) rule)
+
+module _ (controls : Controls) (tableBytes : ℕ) where
+  -- where the line table starts
+  asks-start : (y : ℕ) → Asks NoColour (startOf controls tableBytes y)
+  unfolding startOf
+  asks-start y = asks-cond NoColour (controls .ids) _ _ (asks-table (lineTableOf tableBytes y)) tt
+
+  -- a pixel's ID
+  asks-id : (start x : ℕ) → Asks NoColour (idAt controls tableBytes start x)
+  unfolding idAt
+  asks-id start x = asks-cond NoColour (controls .ids) _ _ (asks-table (idOf tableBytes start x)) tt
+
+  -- a pixel's window entry
+  asks-entry : (start x : ℕ) → Asks NoColour (entryAt controls tableBytes start x)
+  unfolding entryAt
+  asks-entry start x =
+      asks-then NoColour (idAt controls tableBytes start x) _ (asks-id start x)
+      (λ id. (tt, λ word. asks-nothing NoColour x (decoded word (controls .depth))))
+
+module _ (setup : Setup) where
+  -- the whole pass
+  asks-entries : Asks NoColour (entriesOf setup)
+  unfolding entriesOf
+  asks-entries =
+      asks-then NoColour (startOf (setup .controls) (setup .lengths .table) (setup .y)) _ (asks-start (setup .controls) (setup .lengths .table) (setup .y))
+      (λ start. asks-each NoColour _ (asks-entry (setup .controls) (setup .lengths .table) start) (setup .controls .width) 0)
+
+  -- the second pass refuses nothing
+  pub never-colours : (entries : List Entry) → NeverRefuses (coloursOf setup entries)
+  unfolding coloursOf
+  never-colours entries =
+      never-each-of _ (λ entry x. never-within _ ofColour (colourOf (screenIn setup) entry x)) entries 0
+
+  module _ (lent : Lent) where
+    -- a line that is refused by what it goes by alone reads nothing
+    pub unread : {refusal : Numbered} → verdict (lineFaults setup) ≡ refused refusal → reads (view lent) (lineRule setup) ≡ []
+    unfolding lineRule
+    unread e =
+        reads-refused (view lent) (checked (lineFaults setup)) _ (run-checked (view lent) (lineFaults setup) ∙ e)
+        ∙ checked-reads (view lent) (lineFaults setup)
+
+    -- such a line is refused so
+    pub refused-unread : {refusal : Numbered} → verdict (lineFaults setup) ≡ refused refusal → lineOf setup lent ≡ refused refusal
+    unfolding lineOf lineRule
+    refused-unread e = run-refused (view lent) (checked (lineFaults setup)) _ (run-checked (view lent) (lineFaults setup) ∙ e)
+
+    module _ (fine : verdict (lineFaults setup) ≡ ok tt) where
+      -- any other is its two passes
+      pub passes : lineOf setup lent ≡ run (view lent) (entriesOf setup >>= coloursOf setup)
+      unfolding lineOf lineRule
+      passes = run-ok (view lent) (checked (lineFaults setup)) _ (run-checked (view lent) (lineFaults setup) ∙ fine)
+
+      -- and reads what they read
+      pub reads-passes : reads (view lent) (lineRule setup) ≡ reads (view lent) (entriesOf setup >>= coloursOf setup)
+      unfolding lineRule
+      reads-passes =
+          reads-ok (view lent) (checked (lineFaults setup)) _ (run-checked (view lent) (lineFaults setup) ∙ fine)
+          ∙ ap (λ (cells : List Cell). cells ++ reads (view lent) (entriesOf setup >>= coloursOf setup)) (checked-reads (view lent) (lineFaults setup))
+
+    -- a line that is refused reads what its first pass reads, and so no cell that a colour comes from
+    pub refused-line-reads : {refusal : Numbered} → lineOf setup lent ≡ refused refusal
+        → (cell : Cell) → List·Memᴰ cell (reads (view lent) (lineRule setup)) → NoColour cell
+    refused-line-reads {refusal} e cell here = by (verdict (lineFaults setup)) refl
+      where
+        by : (outcome : Outcome Numbered (Unit {0})) → verdict (lineFaults setup) ≡ outcome → NoColour cell
+        by (refused other) early = absurd (List·Memᴰ·not-nil (subst (List·Memᴰ cell) (unread early) here))
+        by (ok tt) fine =
+            asks-reads NoColour (view lent) (entriesOf setup) asks-entries cell
+            (subst (List·Memᴰ cell)
+            (reads-passes fine ∙ refused-reads (view lent) (entriesOf setup) (coloursOf setup) never-colours (sym (passes fine) ∙ e)) here)

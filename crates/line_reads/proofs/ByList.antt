@@ -1,0 +1,41 @@
+-- Demand 3 by the list: two lines that go by the same and agree on the cells that are listed for the first have one answer. Assumes nothing.
+use Prim.Native.Nat.{ℕ}
+use mathlib.Core.Path.{_≡_, subst}
+use mathlib.Core.List.{List, List·Memᴰ}
+use lib.ListN.{length}
+use Rattle.chip.specs.declared.state.State.{State}
+use Rattle.line_setup.specs.declared.setup.Setup.{Setup}
+use Rattle.line.specs.Cells.{Cell, Lent, view}
+use Rattle.line.specs.Line.{lineOf}
+use Rattle.line.specs.Drawn.{setupOf, drawn}
+use Rattle.line_reads.specs.Calls.{SameLengths, AgreeOnReads}
+use Rattle.line_reads.specs.Listed.{Listed, AgreeOnList}
+use Rattle.line_reads.proofs.Demand.{line-rests, line-reads, drawn-rests}
+use Rattle.line_reads.proofs.OnlyListed.{reads-listed}
+use Rattle.line_reads.proofs.AllListed.{listed-reads}
+
+module _ (setup : Setup) (lent other : Lent) (agree : AgreeOnList setup lent other) where
+  -- then they agree on the cells that it reads
+  pub on-reads : AgreeOnReads setup lent other
+  on-reads = λ cell here. agree cell (reads-listed setup lent cell here)
+
+  -- the line has one outcome
+  pub line-rests-on-list : lineOf setup lent ≡ lineOf setup other
+  line-rests-on-list = line-rests setup lent other on-reads
+
+  -- and the same list
+  pub same-list : (cell : Cell) → Listed setup lent cell → Listed setup other cell
+  same-list cell listed =
+      reads-listed setup other cell
+      (subst (List·Memᴰ cell) (line-reads setup lent other on-reads) (listed-reads setup lent cell listed))
+
+-- any longer list will do as well: the paper's own, which has of the entries that a search passes over more than their ends, is one
+pub line-rests-on-longer : (setup : Setup) (lent other : Lent) (Longer : Cell → Type 0) → ((cell : Cell) → Listed setup lent cell → Longer cell)
+    → ((cell : Cell) → Longer cell → view lent cell ≡ view other cell) → lineOf setup lent ≡ lineOf setup other
+line-rests-on-longer setup lent other Longer holds agree = line-rests-on-list setup lent other (λ cell listed. agree cell (holds cell listed))
+
+-- the same over states, in the contract's own words
+pub drawn-rests-on-list : (state : State) (y : ℕ) (lent other : Lent) → SameLengths lent other → (output : List ℕ)
+    → AgreeOnList (setupOf state y lent (length output)) lent other → drawn state y lent output ≡ drawn state y other output
+drawn-rests-on-list state y lent other same output agree =
+    drawn-rests state y lent other same output (on-reads (setupOf state y lent (length output)) lent other agree)

@@ -1,0 +1,49 @@
+-- An overlay row where overlay is off, and a table where window IDs are off, may be any, of any length. Assumes nothing.
+use Prim.Native.Nat.{ℕ}
+use mathlib.Core.Path.{_≡_, refl, ap, _∙_}
+use mathlib.Core.Bool.{false}
+use mathlib.Core.List.{List}
+use lib.ListN.{length}
+use Rattle.rules.specs.Rule.{Rule, Outcome, run}
+use Rattle.rules.specs.Faults.{Numbered}
+use Rattle.chip.specs.declared.state.State.{State}
+use Rattle.line_setup.specs.Controls.{controlsOf}
+use Rattle.line_setup.specs.Faults.{tableTooLong, overlayWrong, lengthFaults, lineFaults}
+use Rattle.line.specs.Cells.{Cell, Lent, view}
+use Rattle.line.specs.Line.{startOf, idAt, entryAt, entriesOf, coloursOf, lineRule, lineOf}
+use Rattle.line.specs.Drawn.{setupOf, said, after, drawn}
+use Rattle.line_reads.specs.Hidden.{withTable, withOverlay}
+use Rattle.line_reads.proofs.Hidden.{overlay-off, other-table}
+
+module _ (state : State) (y : ℕ) (lent : Lent) (output : List ℕ) where
+  -- what a call leaves and answers, by what comes of its line
+  abbrev by-line : Outcome Numbered (List ℕ) → (State × List ℕ) × Outcome Numbered (Unit {0})
+  by-line line = ((state, after (controlsOf (state .control) .width) output line), said line)
+
+  -- where overlay is off, the rule of the line doesn't look at the row's length
+  overlay-length : controlsOf (state .control) .overlay ≡ false → (row : List ℕ)
+      → lineRule (setupOf state y lent (length output)) ≡ lineRule (setupOf state y (withOverlay lent row) (length output))
+  unfolding setupOf lineRule lineFaults lengthFaults overlayWrong tableTooLong entriesOf coloursOf
+  overlay-length off row = rw off refl
+
+  -- any overlay row where overlay is off
+  pub drawn-overlay-off : controlsOf (state .control) .overlay ≡ false → (row : List ℕ) → drawn state y lent output ≡ drawn state y (withOverlay lent row) output
+  unfolding drawn setupOf lineOf
+  drawn-overlay-off off row =
+      ap by-line
+      (ap (λ (rule : Rule Numbered Cell (List ℕ)). run (view lent) rule) (overlay-length off row)
+      ∙ overlay-off (setupOf state y (withOverlay lent row) (length output)) lent row off)
+
+  -- where window IDs are off, it doesn't look at the table's length
+  table-length : controlsOf (state .control) .ids ≡ false → (table : List ℕ)
+      → lineRule (setupOf state y lent (length output)) ≡ lineRule (setupOf state y (withTable lent table) (length output))
+  unfolding setupOf lineRule lineFaults lengthFaults overlayWrong tableTooLong entriesOf coloursOf startOf entryAt idAt
+  table-length off table = rw off refl
+
+  -- any table where window IDs are off
+  pub drawn-table-off : controlsOf (state .control) .ids ≡ false → (table : List ℕ) → drawn state y lent output ≡ drawn state y (withTable lent table) output
+  unfolding drawn setupOf lineOf
+  drawn-table-off off table =
+      ap by-line
+      (ap (λ (rule : Rule Numbered Cell (List ℕ)). run (view lent) rule) (table-length off table)
+      ∙ other-table (setupOf state y (withTable lent table) (length output)) lent table off)

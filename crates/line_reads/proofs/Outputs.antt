@@ -1,0 +1,114 @@
+-- The output after a line: colours in the active width, the rest and the length as before; what it held counts for nothing. Assumes nothing.
+use Prim.Native.Nat.{ℕ, _+_, _-_, _≤_, _<_}
+use mathlib.Core.Path.{_≡_, refl, sym, ap, _∙_}
+use mathlib.Core.List.{List, _++_}
+use native.Mathlib.Omega.{arith}
+use lib.ListN.{length, getD, drop, length-append, length-drop, List·getD-append}
+use lib.Seq.{getD-append-add, getD-drop}
+use Rattle.rules.specs.Rule.{Outcome, ok, refused, run, _>>=_}
+use Rattle.rules.specs.Faults.{Numbered}
+use Rattle.rules.specs.Checked.{verdict}
+use Rattle.rules.proofs.Cases.{impossible}
+use Rattle.chip.specs.declared.state.State.{State}
+use Rattle.line_setup.specs.Controls.{controlsOf}
+use Rattle.line_setup.specs.Faults.{lineFaults}
+use Rattle.line_setup.specs.declared.setup.Setup.{Setup}
+use Rattle.line_setup.proofs.Fitted.{fitted}
+use Rattle.line.specs.Cells.{Lent, view}
+use Rattle.line.specs.Line.{entriesOf, coloursOf, lineOf}
+use Rattle.line.specs.Drawn.{setupOf, drawn, said, after}
+use Rattle.line_reads.specs.Calls.{SameLengths, AgreeOnReads}
+use Rattle.line_reads.proofs.Demand.{outcome-rests}
+use Rattle.line_reads.proofs.Before.{refused-unread, passes}
+use Rattle.line_reads.proofs.Parts.{both}
+use Rattle.line_reads.proofs.Passes.{each-length, each-of-length}
+use Rattle.line_reads.proofs.Frames.{starting}
+use Rattle.line_reads.proofs.Pixels.{entering}
+use Rattle.line_reads.proofs.OnlyListed.{passing}
+
+module _ (setup : Setup) (lent : Lent) where
+  -- as many colours as the active width
+  passes-length : {colours : List ℕ} → run (view lent) (entriesOf setup >>= coloursOf setup) ≡ ok colours → length colours ≡ setup .controls .width
+  unfolding entriesOf coloursOf
+  passes-length e =
+      let two = both (view lent) (entriesOf setup) (coloursOf setup) e in
+      let first = both (view lent) (starting setup lent) (passing setup lent) (two .found) in
+      each-of-length (view lent) _ (two .first) 0 (two .next) ∙ each-length (view lent) (entering setup lent (first .first)) (setup .controls .width) 0 (first .next)
+
+  -- a drawn line has a colour for each pixel of the active width
+  pub colours-length : {colours : List ℕ} → lineOf setup lent ≡ ok colours → length colours ≡ setup .controls .width
+  colours-length {colours} e = by (verdict (lineFaults setup)) refl
+    where
+      by : (outcome : Outcome Numbered (Unit {0})) → verdict (lineFaults setup) ≡ outcome → length colours ≡ setup .controls .width
+      by (refused refusal) early = impossible (cc (refused-unread setup lent early))
+      by (ok tt) fine = passes-length (sym (passes setup lent fine) ∙ e)
+
+module _ (state : State) (y : ℕ) (lent : Lent) (output : List ℕ) where
+  -- what the line goes by
+  abbrev given : Setup
+  given = setupOf state y lent (length output)
+
+  -- a call that answers that the line is drawn has its colours
+  pub drawn-line : drawn state y lent output .1 ≡ ok tt → (colours : List ℕ) × (lineOf given lent ≡ ok colours)
+  unfolding drawn
+  drawn-line is-drawn = by (lineOf given lent) refl is-drawn
+    where
+      by : (line : Outcome Numbered (List ℕ)) → lineOf given lent ≡ line → said line ≡ ok tt → (colours : List ℕ) × (lineOf given lent ≡ ok colours)
+      by (ok colours) e is = (colours, e)
+      by (refused refusal) e is = impossible (cc)
+
+  -- a word of the active width is then a colour
+  pub word-drawn : {colours : List ℕ} → lineOf given lent ≡ ok colours → (x : ℕ) → x < controlsOf (state .control) .width
+      → getD (drawn state y lent output .0 .1) x 0 ≡ getD colours x 0
+  unfolding drawn setupOf
+  word-drawn {colours} e x active =
+      let width = controlsOf (state .control) .width in
+      ap (λ (line : Outcome Numbered (List ℕ)). getD (after width output line) x 0) e
+      ∙ List·getD-append colours (drop width output) 0 x (omega (arith, colours-length given lent e))
+
+  -- a word past the active width stays, whatever comes of the line
+  pub word-past : (x : ℕ) → controlsOf (state .control) .width ≤ x → getD (drawn state y lent output .0 .1) x 0 ≡ getD output x 0
+  unfolding drawn setupOf
+  word-past x past = by (lineOf given lent) refl
+    where
+      by : (line : Outcome Numbered (List ℕ)) → lineOf given lent ≡ line → getD (after (given .controls .width) output line) x 0 ≡ getD output x 0
+      by (ok colours) e =
+          let width = given .controls .width in
+          let long = colours-length given lent e in
+          let at : length colours + (x - width) ≡ x = omega arith in
+          let back : width + (x - width) ≡ x = omega arith in
+          ap (λ (n : ℕ). getD (colours ++ drop width output) n 0) (sym at)
+          ∙ getD-append-add colours (drop width output) (x - width) 0
+          ∙ getD-drop width output (x - width) 0
+          ∙ ap (λ (n : ℕ). getD output n 0) back
+      by (refused refusal) e = refl
+
+  -- the output has room for a line that is drawn
+  line-fits : {colours : List ℕ} → lineOf given lent ≡ ok colours → given .controls .width ≤ length output
+  unfolding setupOf
+  line-fits {colours} e = by (verdict (lineFaults given)) refl
+    where
+      by : (outcome : Outcome Numbered (Unit {0})) → verdict (lineFaults given) ≡ outcome → given .controls .width ≤ length output
+      by (ok tt) fine = fitted given fine .output-right
+      by (refused refusal) early = impossible (cc (refused-unread given lent early))
+
+  -- and it is as long after any line as before
+  pub output-length : length (drawn state y lent output .0 .1) ≡ length output
+  unfolding drawn
+  output-length = by (lineOf given lent) refl
+    where
+      by : (line : Outcome Numbered (List ℕ)) → lineOf given lent ≡ line → length (after (given .controls .width) output line) ≡ length output
+      by (ok colours) e =
+          let width = given .controls .width in
+          omega (arith, length-append colours (drop width output), length-drop width output, colours-length given lent e, line-fits e)
+      by (refused refusal) e = refl
+
+-- outputs of the same length that held different words: where a line is drawn, the words of the active width are the same after it
+pub words-rest : (state : State) (y : ℕ) (lent other : Lent) → SameLengths lent other → (output old : List ℕ) → length output ≡ length old
+    → AgreeOnReads (setupOf state y lent (length output)) lent other → drawn state y lent output .1 ≡ ok tt
+    → (i : ℕ) → i < controlsOf (state .control) .width → getD (drawn state y lent output .0 .1) i 0 ≡ getD (drawn state y other old .0 .1) i 0
+words-rest state y lent other same output old long agree is-drawn i below =
+    let line = drawn-line state y lent output is-drawn in
+    let again : lineOf (setupOf state y other (length old)) other ≡ ok (line .0) =
+    ap (λ (n : ℕ). lineOf (setupOf state y other n) other) (sym long) ∙ sym (outcome-rests state y lent other same (length output) agree) ∙ line .1 in
+    word-drawn state y lent output (line .1) i below ∙ sym (word-drawn state y other old again i below)

@@ -1,0 +1,129 @@
+-- The search for an end from some entry on: what its outcome tells and reads, and a loop that makes it. Assumes nothing.
+use Prim.Native.Nat.{ℕ, suc, _+_, _-_, _≤_, _<_}
+use mathlib.Core.Path.{_≡_, refl, ap}
+use mathlib.Core.Logic.{⊎-elim}
+use native.Mathlib.Omega.{arith}
+use borrow.Author.Tests.{leb-true, leb-false}
+use lib.Dec.{leb}
+use Rattle.rules.specs.Rule.{Outcome, ok, refused, run, reads}
+use Rattle.rules.specs.Lists.{values}
+use Rattle.rules.proofs.Cases.{le-or-lt}
+use Rattle.rules.proofs.First.{found-from, missing-from}
+use Rattle.line_windows.specs.Search.{entryFrom}
+
+module _ {Q : Type 0} (memory : Q → ℕ) (end : ℕ → Q) where
+  -- each entry from `first` on and before `last` ends below `position`
+  pub record Short (first last position : ℕ) : Type 0 where
+    pub each : (i : ℕ) → first ≤ i → i < last → memory (end i) < position
+
+  -- of `count` entries `entry` is the first, from `from` on, whose end is at least `position`
+  pub record Reached (count from position entry : ℕ) : Type 0 where
+    pub after : from ≤ entry
+    pub below : entry < count
+    pub reaches : position ≤ memory (end entry)
+    pub short : Short from entry position
+
+  -- a loop that searches from entry `from` on is at entry `at`: it passed all before
+  pub record Searching (from position at : ℕ) : Type 0 where
+    pub after : from ≤ at
+    pub short : Short from at position
+
+-- ---- ends below a position
+
+module _ {Q : Type 0} {memory : Q → ℕ} {end : ℕ → Q} where
+  -- a stretch and the entry behind it
+  short-more : {first last position : ℕ} → Short memory end first last position → memory (end last) < position
+      → Short memory end first (last + 1) position
+  short-more {first} {last} before under =
+      record {
+        each = λ i low high.
+            ⊎-elim (λ above. let same : last ≡ i = omega arith in rw same at under) (λ earlier. before .each i low earlier) (le-or-lt last i);
+      }
+
+-- ---- the entry reached
+
+module _ {Q : Type 0} {memory : Q → ℕ} {end : ℕ → Q} {count from : ℕ} where
+  -- at a later position it is no earlier entry
+  reached-monotone : {p q k l : ℕ} → Reached memory end count from p k → Reached memory end count from q l → p ≤ q → k ≤ l
+  reached-monotone {p} {q} {k} {l} first second le =
+      ⊎-elim (λ fine. fine) (λ l<k. absurd (omega (arith, first .short .each l (second .after) l<k, second .reaches))) (le-or-lt k l)
+
+-- ---- what the search answers
+
+module _ {R Q : Type 0} (memory : Q → ℕ) (missing : R) (end : ℕ → Q) (count from position : ℕ) where
+  -- it answers the entry that is reached
+  pub found-tells : {entry : ℕ} → run memory (entryFrom missing end count from position) ≡ ok entry → Reached memory end count from position entry
+  unfolding entryFrom
+  found-tells e =
+      let found = found-from missing end (leb position) memory (count - from) from e in
+      record {
+        after = found .after;
+        below = omega (arith, found .after, found .below);
+        reaches = leb-true _ _ (found .passed);
+        short = record { each = λ i low high. leb-false _ _ (found .failed i low high) };
+      }
+
+  -- it has read the ends up to that of the entry
+  pub found-reads : {entry : ℕ} → run memory (entryFrom missing end count from position) ≡ ok entry
+      → reads memory (entryFrom missing end count from position) ≡ values end (suc (entry - from)) from
+  unfolding entryFrom
+  found-reads e = found-from missing end (leb position) memory (count - from) from e .read
+
+  -- it refuses only as it is told to
+  pub missing-named : {refusal : R} → run memory (entryFrom missing end count from position) ≡ refused refusal → refusal ≡ missing
+  unfolding entryFrom
+  missing-named e = missing-from missing end (leb position) memory (count - from) from e .named
+
+  -- it refuses only where no entry is reached
+  pub missing-tells : {refusal : R} → run memory (entryFrom missing end count from position) ≡ refused refusal → Short memory end from count position
+  unfolding entryFrom
+  missing-tells e =
+      let none = missing-from missing end (leb position) memory (count - from) from e in
+      record { each = λ i low high. leb-false _ _ (none .failed i low (omega arith)) }
+
+  -- it has then read every end
+  pub missing-reads : {refusal : R} → run memory (entryFrom missing end count from position) ≡ refused refusal
+      → reads memory (entryFrom missing end count from position) ≡ values end (count - from) from
+  unfolding entryFrom
+  missing-reads e = missing-from missing end (leb position) memory (count - from) from e .read
+
+  -- where an entry is reached, it answers that
+  pub finds : {entry : ℕ} → Reached memory end count from position entry → run memory (entryFrom missing end count from position) ≡ ok entry
+  finds {entry} here = by (run memory (entryFrom missing end count from position)) refl
+    where
+      by : (outcome : Outcome R ℕ) → run memory (entryFrom missing end count from position) ≡ outcome → outcome ≡ ok entry
+      by (ok other) e =
+          ap ok (let there = found-tells e in omega (arith, reached-monotone there here (omega arith), reached-monotone here there (omega arith)))
+      by (refused refusal) e =
+          absurd (omega (arith, missing-tells e .each entry (here .after) (here .below), here .reaches))
+
+  -- where none is reached, it refuses
+  pub misses : Short memory end from count position → run memory (entryFrom missing end count from position) ≡ refused missing
+  misses none = by (run memory (entryFrom missing end count from position)) refl
+    where
+      by : (outcome : Outcome R ℕ) → run memory (entryFrom missing end count from position) ≡ outcome → outcome ≡ refused missing
+      by (ok entry) e =
+          let here = found-tells e in absurd (omega (arith, none .each entry (here .after) (here .below), here .reaches))
+      by (refused refusal) e = ap refused (missing-named e)
+
+-- ---- a loop that makes the search
+
+module _ {Q : Type 0} {memory : Q → ℕ} {end : ℕ → Q} where
+  -- before the first entry
+  pub search-start : (from position : ℕ) → Searching memory end from position from
+  search-start from position = record { after = omega arith; short = record { each = λ i low high. absurd (omega arith) } }
+
+  module _ {from position at : ℕ} (here : Searching memory end from position at) where
+    -- an end below the position: one on
+    pub search-next : memory (end at) < position → Searching memory end from position (at + 1)
+    search-next under = record { after = omega (arith, here .after); short = short-more (here .short) under }
+
+    module _ {R : Type 0} (missing : R) (count : ℕ) where
+      -- any other end is the one searched for
+      pub search-found : at < count → position ≤ memory (end at) → run memory (entryFrom missing end count from position) ≡ ok at
+      search-found more reaches =
+          finds memory missing end count from position (record { after = here .after; below = more; reaches = reaches; short = here .short })
+
+      -- after the last entry
+      pub search-over : count ≤ at → run memory (entryFrom missing end count from position) ≡ refused missing
+      search-over all = misses memory missing end count from position (record { each = λ i low high. here .short .each i low (omega arith) })

@@ -1,0 +1,34 @@
+-- Which line table a line uses.
+use Prim.Native.Nat.{ℕ, _/_, _<_, min}
+use Rattle.rules.specs.Rule.{Rule, get, _>>=_, Outcome, ok, refused}
+use Rattle.rules.specs.Faults.{Numbered}
+use Rattle.refusals.specs.Refusal.{numbered}
+use Rattle.refusals.specs.declared.Refusal.the-variants.{NoFrameEntry}
+use Rattle.line_windows.specs.Table.{TableCell, yend, lineTable}
+use Rattle.line_windows.specs.Search.{entryAt}
+use Rattle.line_windows.specs.declared.frame.LineTable.{LineTable}
+use Rattle.line_windows.specs.declared.frame.LineTable.the-variants.{Starts, Refused}
+
+-- how many frame entries a table of so many bytes has: whole ones, and 2,048 at most
+abbrev pub frameEntries : ℕ → ℕ
+frameEntries length = min 2048 (length / 4)
+
+-- of the frame entries the first that ends at line y or later; none is 7
+abbrev pub frameOf : ℕ → ℕ → Rule Numbered TableCell ℕ
+frameOf length y = entryAt (numbered (NoFrameEntry y)) yend (frameEntries length) y
+
+-- where its line table starts
+unfoldable pub lineTableOf : ℕ → ℕ → Rule Numbered TableCell ℕ
+lineTableOf length y = do
+  entry ← frameOf length y
+  get (lineTable entry)
+
+-- what the look-up's answer says: the byte, or a refusal's number and values
+abbrev pub told : LineTable → Outcome Numbered ℕ
+told (Starts byte) = ok byte
+told (Refused refusal) = refused (numbered refusal)
+
+-- a line table starts at one of the 65,536 bytes that a table can have
+abbrev pub startBelow : LineTable → Type 0
+startBelow (Starts byte) = byte < 65536
+startBelow (Refused refusal) = Unit {0}

@@ -1,0 +1,39 @@
+// Frame entries: which line table a line uses.
+ghost use mathlib.Core.Path.{_≡_};
+ghost use lib.ListN.{length};
+ghost use Rattle.rules.specs.Rule.{run};
+ghost use Rattle.line_windows.specs.Table.{tableView};
+ghost use Rattle.line_windows.specs.Frame.{frameEntries, told, startBelow, lineTableOf};
+use refusals::Refusal;
+
+// Where a line's table starts, or the refusal.
+pub enum LineTable {
+    Starts(usize),
+    Refused(Refusal),
+}
+
+// How many whole frame entries a table of so many bytes has.
+fn frame_entries(length: usize) -> usize
+    ensures { λ r. ⌜ r ≡ frameEntries length ⌝ }
+{
+    let whole = length / 4;
+    if whole < 2048 { whole } else { 2048 }
+}
+
+// Where the line table of line y starts: the first frame entry that ends there or later says.
+pub fn line_table(table: &[u8], y: u32) -> LineTable
+    ensures { λ r. ⌜ (told r ≡ run (tableView (now (table .entry))) (lineTableOf (length (now (table .entry))) y)) × startBelow r ⌝ }
+{
+    let count = frame_entries(table.len());
+    let mut entry = 0;
+    while entry < count {
+        let word = words::be32(table, 4 * entry);
+        if y <= words::field(word, 26, 16) {
+            let block = words::field(word, 14, 8) as usize;
+            let offset = words::field(word, 7, 0) as usize;
+            return LineTable::Starts(512 * block + 2 * offset);
+        }
+        entry += 1;
+    }
+    LineTable::Refused(Refusal::NoFrameEntry(y))
+}

@@ -1,8 +1,0 @@
--- No second outcome meets the contract of this crate's public function. Assumes nothing.
-use denote.Ref.{now}
-use Rattle.rules.specs.Unique.{OneOutcome}
-use Rattle.rules.proofs.Unique.{by-pair}
-use Rattle.listing.proofs.render.render.Reads as render
-
-pub render-unique : OneOutcome (λ k exit. now (exit .1 .1 .0)) render.Post
-render-unique = by-pair _ _ _

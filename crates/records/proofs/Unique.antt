@@ -1,7 +1,0 @@
--- No second answer meets a contract of this crate. Assumes nothing.
-use Rattle.rules.specs.Unique.{OneAnswer}
-use Rattle.rules.proofs.Unique.{by-equation}
-use Rattle.records.proofs.record.record_at.Reads as record-at
-
-pub record-at-unique : OneAnswer record-at.Post
-record-at-unique = by-equation _ _

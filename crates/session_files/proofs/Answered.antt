@@ -1,0 +1,171 @@
+-- From a session's start no call is refused, so that every file has its listing by calls, however it is cut. Assumes nothing.
+use Prim.Native.Nat.{ℕ, _+_, _≤_}
+use mathlib.Core.Path.{_≡_, refl, sym, ap, subst, _∙_}
+use mathlib.Core.Bool.{Bool, false}
+use mathlib.Core.List.{List, [], _++_}
+use native.Mathlib.Omega.{arith}
+use borrow.Author.Tests.{le-ltb, eq-eqb}
+use lib.ListN.{length, drop, length-append, length-drop}
+use Rattle.rules.specs.Rule.{ok}
+use Rattle.rules.specs.Faults.{Clear}
+use Rattle.rules.specs.Lists.{joined}
+use Rattle.rules.proofs.Faults.{none-holds}
+use Rattle.chip_registers.specs.Store.{storeLength}
+use Rattle.chip_history.specs.Calls.{after}
+use Rattle.session_records.specs.Tags.{longestTable, longestNormal, longestOverlay}
+use Rattle.session_listing.specs.Text.{refused, text}
+use Rattle.session_answers.specs.Came.{Came, listed, waits, stopped}
+use Rattle.session_rooms.specs.Rooms.{longestLine, tooMuchHeld, roomFaults}
+use Rattle.session.specs.Held.{Held, empty}
+use Rattle.session.specs.Record.{stepped}
+use Rattle.session.specs.Listing.{listing}
+use Rattle.session.specs.Lent.{Rooms, heldIn, laid, roomsWith, sessionOf}
+use Rattle.session.specs.Step.{stepFaults, Left, afterStep, sessionStep}
+use Rattle.session.specs.Inner.{Within}
+use Rattle.session.specs.declared.session.Session.{Session}
+use Rattle.session_files.specs.Steps.{none, Steps}
+use Rattle.session_files.specs.Steps as steps
+use Rattle.session_files.specs.Calls.{Calls, lends, lists, ends, stops, Zeroed, RightLengths, Roomy}
+use Rattle.session_files.proofs.Step.{waiting-leaves, stopped-leaves}
+use Rattle.session_files.proofs.Cuts.{steps-end}
+use Rattle.session_files.proofs.Calls.{held-again, same-held, same-output, same-place, first-held, calls-list}
+use Rattle.session_files.proofs.Sizes.{empty-roomy, stays-roomy}
+
+-- a session and rooms at which no call is refused: what is held has its sizes and lies within rooms of the right lengths
+pub record Ready (session : Session) (rooms : Rooms) : Type 0 where
+  pub roomy : Roomy (heldIn session rooms)
+  pub within : Within session rooms
+  pub right : RightLengths rooms
+
+-- none of a call's faults is there
+pub roomy-clear : {session : Session} {rooms : Rooms} → Ready session rooms → Clear (stepFaults session rooms)
+unfolding tooMuchHeld roomFaults
+roomy-clear {session} {rooms} ready =
+    let right = ready .right in
+    let inside = ready .within in
+    let roomy = ready .roomy in (
+      rw (
+        le-ltb longestTable (session .table) (omega (arith, right .table-long, inside .table-within)),
+        le-ltb longestNormal (session .normal) (omega (arith, right .normal-long, inside .normal-within)),
+        le-ltb longestOverlay (session .overlay) (omega (arith, right .overlay-long, inside .overlay-within)),
+      ) refl,
+      (
+        rw (eq-eqb (length (rooms .store)) storeLength (roomy .store-long)) refl,
+        (
+          rw (eq-eqb (length (rooms .table)) longestTable (right .table-long)) refl,
+          (
+            rw (eq-eqb (length (rooms .normal)) longestNormal (right .normal-long)) refl,
+            (
+              rw (eq-eqb (length (rooms .overlay)) longestOverlay (right .overlay-long)) refl,
+              (rw (eq-eqb (length (rooms .output)) longestLine (roomy .output-long)) refl, tt),
+            ),
+          ),
+        ),
+      ),
+    )
+
+-- a room is as long with bytes at its front that fit into it
+laid-length : (room bytes : List ℕ) → length bytes ≤ length room → length (laid room bytes) ≡ length room
+laid-length room bytes fits = omega (arith, length-append bytes (drop (length bytes) room), length-drop (length bytes) room)
+
+-- what has its sizes, put into rooms of the right lengths, is ready for the next call
+put-ready : (held : Held) (rooms : Rooms) → Roomy held → RightLengths rooms → Ready (sessionOf held) (roomsWith rooms held)
+put-ready held rooms roomy right =
+    let table-same = laid-length (rooms .table) (held .table) (rw (right .table-long) (roomy .table-held)) in
+    let normal-same = laid-length (rooms .normal) (held .normal) (rw (right .normal-long) (roomy .normal-held)) in
+    let overlay-same = laid-length (rooms .overlay) (held .overlay) (rw (right .overlay-long) (roomy .overlay-held)) in
+    record {
+      roomy = subst Roomy (sym (held-again rooms held)) roomy;
+      within = record {
+        table-within = rw (table-same, right .table-long) (roomy .table-held);
+        normal-within = rw (normal-same, right .normal-long) (roomy .normal-held);
+        overlay-within = rw (overlay-same, right .overlay-long) (roomy .overlay-held);
+      };
+      right = record {
+        table-long = table-same ∙ right .table-long;
+        normal-long = normal-same ∙ right .normal-long;
+        overlay-long = overlay-same ∙ right .overlay-long;
+      };
+    }
+
+-- what an answered call leaves
+abbrev pub left : Session → Rooms → List ℕ → ℕ → Bool → Left
+left session rooms bytes place last = afterStep session rooms bytes place last .0
+
+module _ (session : Session) (rooms : Rooms) (bytes : List ℕ) (place : ℕ) (last : Bool) (ready : Ready session rooms) where
+  -- a call is answered, at any place of any bytes
+  pub call-answered : let done = afterStep session rooms bytes place last in sessionStep session rooms bytes place last ≡ (done .0, ok (done .1))
+  unfolding sessionStep
+  call-answered = none-holds ((session, place), rooms) (afterStep session rooms bytes place last) (stepFaults session rooms) (roomy-clear ready)
+
+  -- it answers what the step over what is held comes to
+  pub call-comes : {came : Came} → stepped last (heldIn session rooms) (drop place bytes) .1 ≡ came
+      → sessionStep session rooms bytes place last ≡ (left session rooms bytes place last, ok came)
+  unfolding afterStep
+  call-comes e = call-answered ∙ ap (λ (came : Came). (left session rooms bytes place last, ok came)) e
+
+  -- and what it leaves is ready for the next
+  pub stays-ready : let after = left session rooms bytes place last in Ready (after .0 .0) (after .1)
+  unfolding afterStep
+  stays-ready =
+      put-ready (stepped last (heldIn session rooms) (drop place bytes) .0 .0) rooms
+      (stays-roomy last (heldIn session rooms) (drop place bytes) (ready .roomy)) (ready .right)
+
+-- steps over what is held are calls: where one waits, only the unread bytes stay lent
+pub steps-calls : {held : Held} {unread : List ℕ} {pieces : List (List ℕ)} {written : List ℕ} → Steps held unread pieces written
+    → (session : Session) (rooms : Rooms) (bytes : List ℕ) (place : ℕ) → Ready session rooms → heldIn session rooms ≡ held → drop place bytes ≡ unread
+    → Calls session rooms bytes place pieces written
+steps-calls (steps.lends {held = held} {unread = unread} {piece = piece} waited others) session rooms bytes place ready same here =
+    let waits-so : stepped false (heldIn session rooms) (drop place bytes) .1 ≡ waits = rw (same, here) waited in
+    let is = call-comes session rooms bytes place false ready waits-so in
+    let leaves = waiting-leaves false (heldIn session rooms) (drop place bytes) waits-so in
+    let next = left session rooms bytes place false in
+    let held-is : heldIn (next .0 .0) (next .1) ≡ held = same-held session rooms bytes place false is ∙ ap (λ (all : Held × ℕ). all .0) leaves ∙ same in
+    let unread-is : drop (next .0 .1) bytes ≡ unread =
+    same-place session rooms bytes place false is ∙ ap (λ (all : Held × ℕ). drop (all .1) (drop place bytes)) leaves ∙ here in
+    lends is refl
+    (steps-calls others (next .0 .0) (next .1) (drop (next .0 .1) bytes ++ piece) 0 (stays-ready session rooms bytes place false ready) held-is
+    (ap (λ (front : List ℕ). front ++ piece) unread-is))
+steps-calls (steps.lists {after = after} {unread = unread} {pieces = pieces} {rest = rest} {taken = taken} {entry = entry} stepped-so others) session rooms bytes place ready same here =
+    let last = none pieces in
+    let step-is : stepped last (heldIn session rooms) (drop place bytes) ≡ ((after, taken), listed entry) = rw (same, here) stepped-so in
+    let is = call-comes session rooms bytes place last ready (ap (λ (all : (Held × ℕ) × Came). all .1) step-is) in
+    let next = left session rooms bytes place last in
+    let held-is : heldIn (next .0 .0) (next .1) ≡ after = same-held session rooms bytes place last is ∙ ap (λ (all : (Held × ℕ) × Came). all .0 .0) step-is in
+    let unread-is : drop (next .0 .1) bytes ≡ drop taken unread =
+    same-place session rooms bytes place last is ∙ rw (step-is, here) refl in
+    subst (λ (output : List ℕ). Calls session rooms bytes place pieces (text entry output ++ rest)) (ap (λ (held : Held). held .output) held-is)
+    (lists is (steps-calls others (next .0 .0) (next .1) bytes (next .0 .1) (stays-ready session rooms bytes place last ready) held-is unread-is))
+steps-calls (steps.ends {pieces = pieces} ended-so) session rooms bytes place ready same here =
+    ends (call-comes session rooms bytes place (none pieces) ready (rw (same, here) ended-so))
+steps-calls (steps.stops {held = held} {pieces = pieces} {refusal = refusal} stopped-so) session rooms bytes place ready same here =
+    let last = none pieces in
+    let stops-so : stepped last (heldIn session rooms) (drop place bytes) .1 ≡ stopped refusal = rw (same, here) stopped-so in
+    let is = call-comes session rooms bytes place last ready stops-so in
+    let output-is : left session rooms bytes place last .1 .output ≡ held .output =
+    same-output session rooms bytes place last is
+    ∙ ap (λ (all : Held × ℕ). all .0 .output) (stopped-leaves last (heldIn session rooms) (drop place bytes) stops-so)
+    ∙ ap (λ (other : Held). other .output) same in
+    subst (λ (output : List ℕ). Calls session rooms bytes place pieces (text (refused refusal) output)) output-is (stops is)
+
+-- a new session is ready in zeroed rooms of the right lengths
+pub first-ready : {rooms : Rooms} → Zeroed rooms → RightLengths rooms → Ready (sessionOf empty) rooms
+first-ready zeroed right =
+    record {
+      roomy = subst Roomy (sym (first-held zeroed)) empty-roomy;
+      within = record { table-within = omega arith; normal-within = omega arith; overlay-within = omega arith };
+      right = right;
+    }
+
+-- so there are calls on a new session for every file, however it is cut
+pub calls-end : (rooms : Rooms) → Zeroed rooms → RightLengths rooms → (pieces : List (List ℕ))
+    → (written : List ℕ) × Calls (sessionOf empty) rooms [] 0 pieces written
+calls-end rooms zeroed right pieces =
+    let all = steps-end pieces in
+    (all .0, steps-calls (all .1) (sessionOf empty) rooms [] 0 (first-ready zeroed right) (first-held zeroed) refl)
+
+-- and what they list is the file's listing
+pub calls-give : (rooms : Rooms) → Zeroed rooms → RightLengths rooms → (pieces : List (List ℕ)) → Calls (sessionOf empty) rooms [] 0 pieces (listing (joined pieces))
+calls-give rooms zeroed right pieces =
+    let all = calls-end rooms zeroed right pieces in
+    subst (Calls (sessionOf empty) rooms [] 0 pieces) (calls-list zeroed (all .1)) (all .1)

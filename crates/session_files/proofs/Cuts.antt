@@ -1,0 +1,119 @@
+-- However a file is cut into pieces, its steps come to an end and list its listing. Assumes nothing.
+use Prim.Native.Nat.{ℕ, zero, suc, _+_, _≤_}
+use mathlib.Core.Path.{_≡_, refl, ap, sym, _∙_}
+use mathlib.Core.Bool.{true, false}
+use mathlib.Core.List.{List, [], _∷_, _++_, append-assoc, append-nil}
+use native.Mathlib.Omega.{arith}
+use lib.ListN.{length, drop}
+use lib.Seq.{drop-append-le}
+use Rattle.rules.specs.Faults.{Numbered}
+use Rattle.rules.specs.Lists.{joined}
+use Rattle.rules.proofs.Cases.{impossible}
+use Rattle.session_listing.specs.Text.{Listed, refused, text}
+use Rattle.session_answers.specs.Came.{Came, listed, ended, waits, stopped}
+use Rattle.session.specs.Held.{Held, empty}
+use Rattle.session.specs.Record.{stepped}
+use Rattle.session.specs.Listing.{listingFrom, listing}
+use Rattle.session_files.specs.Steps.{none, Steps, lends, lists, ends, stops}
+use Rattle.session_files.proofs.Step.{listed-counts, listed-takes, listed-there, listed-below, never-waits}
+use Rattle.session_files.proofs.Behind.{step-of-whole}
+
+-- ---- the listing, by its first step
+
+module _ (count : ℕ) (held : Held) (bytes : List ℕ) where
+  -- it lists an entry
+  listing-lists : {after : Held} {taken : ℕ} {entry : Listed} → stepped true held bytes ≡ ((after, taken), listed entry)
+      → listingFrom (suc count) held bytes ≡ text entry (after .output) ++ listingFrom count after (drop taken bytes)
+  listing-lists e = rw e
+
+  -- it finds the end record
+  listing-ends : stepped true held bytes .1 ≡ ended → listingFrom (suc count) held bytes ≡ []
+  listing-ends e = rw e
+
+  -- it finds a fault of the file
+  listing-stops : {refusal : Numbered} → stepped true held bytes .1 ≡ stopped refusal → listingFrom (suc count) held bytes ≡ text (refused refusal) (held .output)
+  unfolding text
+  listing-stops e = rw (e, append-nil)
+
+-- ---- the steps list the listing
+
+module _ (held : Held) (unread : List ℕ) (pieces : List (List ℕ)) {after : Held} {taken : ℕ} {entry : Listed}
+    (e : stepped (none pieces) held unread ≡ ((after, taken), listed entry)) where
+  -- a step that lists an entry
+  lists-entry : stepped (none pieces) held unread .1 ≡ listed entry
+  lists-entry = rw e
+
+  -- it is the step of the whole file
+  lists-whole : stepped true held (unread ++ joined pieces) ≡ ((after, taken), listed entry)
+  lists-whole = step-of-whole held unread pieces (λ more. impossible cc) ∙ e
+
+  -- behind its record the same bytes are left
+  lists-rest : drop taken (unread ++ joined pieces) ≡ drop taken unread ++ joined pieces
+  lists-rest =
+      let takes = listed-takes (none pieces) held unread lists-entry in
+      let enough : taken ≤ length unread = rw (sym takes ∙ ap (λ (s : (Held × ℕ) × Came). s .0 .1) e) at (listed-there (none pieces) held unread lists-entry) in
+      drop-append-le taken unread (joined pieces) enough
+
+  -- it counts its record
+  lists-counts : after .records ≡ held .records + 1
+  lists-counts = rw e at (listed-counts (none pieces) held unread lists-entry)
+
+-- from anything held, with so many further records left
+pub steps-list : {held : Held} {unread : List ℕ} {pieces : List (List ℕ)} {listing : List ℕ} → Steps held unread pieces listing
+    → (left : ℕ) → left + held .records ≡ 1000000 → listing ≡ listingFrom (suc left) held (unread ++ joined pieces)
+steps-list (lends {held = held} {unread = unread} {piece = piece} {pieces = pieces} w steps) left few =
+    steps-list steps left few ∙ ap (listingFrom (suc left) held) (append-assoc unread piece (joined pieces))
+steps-list (lists {held = held} {unread = unread} {pieces = pieces} e steps) zero few =
+    absurd (omega (arith, listed-below (none pieces) held unread (lists-entry held unread pieces e)))
+steps-list (lists {held = held} {after = after} {unread = unread} {pieces = pieces} {entry = entry} e steps) (suc left) few =
+    ap (λ (rest : List ℕ). text entry (after .output) ++ rest)
+    (steps-list steps left (omega (arith, lists-counts held unread pieces e)) ∙ ap (listingFrom (suc left) after) (sym (lists-rest held unread pieces e)))
+    ∙ sym (listing-lists (suc left) held (unread ++ joined pieces) (lists-whole held unread pieces e))
+steps-list (ends {held = held} {unread = unread} {pieces = pieces} e) left few =
+    sym (listing-ends left held (unread ++ joined pieces) (ap (λ (s : (Held × ℕ) × Came). s .1) (step-of-whole held unread pieces (λ more. impossible cc)) ∙ e))
+steps-list (stops {held = held} {unread = unread} {pieces = pieces} e) left few =
+    sym (listing-stops left held (unread ++ joined pieces) (ap (λ (s : (Held × ℕ) × Came). s .1) (step-of-whole held unread pieces (λ more. impossible cc)) ∙ e))
+
+-- however a file is cut, its steps list its listing, from the bytes that are lent at first
+pub cut-lists : {first : List ℕ} {pieces : List (List ℕ)} {text : List ℕ} → Steps empty first pieces text → text ≡ listing (first ++ joined pieces)
+unfolding listing
+cut-lists steps = steps-list steps 1000000 refl
+
+-- two cuts of the same bytes list the same text
+pub cuts-agree : {pieces others : List (List ℕ)} {text other : List ℕ} → joined pieces ≡ joined others
+    → Steps empty [] pieces text → Steps empty [] others other → text ≡ other
+cuts-agree same steps others = cut-lists steps ∙ ap listing same ∙ sym (cut-lists others)
+
+-- ---- the steps come to an end
+
+-- there is a text that they list
+abbrev Lists : Held → List ℕ → List (List ℕ) → Type 0
+Lists held unread pieces = (listing : List ℕ) × Steps held unread pieces listing
+
+module _ (held : Held) (next : (after : Held) → after .records ≡ held .records + 1 → held .records + 1 ≤ 1000000 → (unread : List ℕ) (pieces : List (List ℕ)) → Lists after unread pieces) where
+  module _ (unread : List ℕ) (pieces : List (List ℕ)) (more : stepped (none pieces) held unread .1 ≡ waits → Lists held unread pieces) where
+    -- by what the step comes to
+    ends-by : (came : Came) → stepped (none pieces) held unread .1 ≡ came → Lists held unread pieces
+    ends-by (listed entry) e =
+        let taken = stepped (none pieces) held unread .0 .1 in
+        let after = stepped (none pieces) held unread .0 .0 in
+        let rest = next after (listed-counts (none pieces) held unread e) (omega (arith, listed-below (none pieces) held unread e)) (drop taken unread) pieces in
+        (text entry (after .output) ++ rest .0, lists (ap (λ (came : Came). ((after, taken), came)) e) (rest .1))
+    ends-by ended e = ([], ends e)
+    ends-by waits e = more e
+    ends-by (stopped refusal) e = (text (refused refusal) (held .output), stops e)
+
+  -- the pieces, one after another
+  ends-lent : (unread : List ℕ) (pieces : List (List ℕ)) → Lists held unread pieces
+  ends-lent unread [] = ends-by unread [] (λ w. absurd (never-waits true held unread refl w)) (stepped true held unread .1) refl
+  ends-lent unread (piece ∷ pieces) =
+      ends-by unread (piece ∷ pieces) (λ w. let rest = ends-lent (unread ++ piece) pieces in (rest .0, lends w (rest .1))) (stepped false held unread .1) refl
+
+-- the records, one after another
+ends-within : (left : ℕ) (held : Held) → left + held .records ≡ 1000000 → (unread : List ℕ) (pieces : List (List ℕ)) → Lists held unread pieces
+ends-within zero held few = ends-lent held (λ after counts below. absurd (omega arith))
+ends-within (suc left) held few = ends-lent held (λ after counts below. ends-within left after (omega arith))
+
+-- whatever the pieces, the steps come to an end
+pub steps-end : (pieces : List (List ℕ)) → (listing : List ℕ) × Steps empty [] pieces listing
+steps-end = ends-within 1000000 empty refl []

@@ -1,0 +1,59 @@
+-- Calls of the step over a file that is lent in pieces.
+use Prim.Native.Nat.{ℕ, _≤_}
+use mathlib.Core.Path.{_≡_}
+use mathlib.Core.Bool.{false}
+use mathlib.Core.List.{List, [], _∷_, _++_}
+use lib.ListN.{length, drop, replicate}
+use Rattle.rules.specs.Rule.{ok}
+use Rattle.rules.specs.Faults.{Numbered}
+use Rattle.chip_registers.specs.Store.{storeLength}
+use Rattle.chip.specs.State.{Whole}
+use Rattle.session_records.specs.Tags.{longestTable, longestNormal, longestOverlay}
+use Rattle.session_listing.specs.Text.{Listed, refused, text}
+use Rattle.session_answers.specs.Came.{listed, ended, waits, stopped}
+use Rattle.session_rooms.specs.Rooms.{longestLine}
+use Rattle.session.specs.Held.{Held}
+use Rattle.session.specs.Lent.{Rooms}
+use Rattle.session.specs.Step.{sessionStep}
+use Rattle.session.specs.declared.session.Session.{Session}
+use Rattle.session_files.specs.Steps.{none}
+
+-- calls one after another, each with the session, the rooms and the place that the one before it left: from the bytes that are lent and the pieces to come, they list a text
+pub data Calls : Session → Rooms → List ℕ → ℕ → List (List ℕ) → List ℕ → Type 0 where
+  -- a call waits: bytes are lent in which what was unread stands at a place, and the next piece behind it
+  lends : {session next : Session} {rooms left : Rooms} {bytes more piece : List ℕ} {place at from : ℕ} {pieces : List (List ℕ)} {rest : List ℕ}
+      → sessionStep session rooms bytes place false ≡ (((next, at), left), ok waits)
+      → drop from more ≡ drop at bytes ++ piece
+      → Calls next left more from pieces rest → Calls session rooms bytes place (piece ∷ pieces) rest
+  -- a call lists an entry
+  lists : {session next : Session} {rooms left : Rooms} {bytes : List ℕ} {place at : ℕ} {pieces : List (List ℕ)} {rest : List ℕ} {entry : Listed}
+      → sessionStep session rooms bytes place (none pieces) ≡ (((next, at), left), ok (listed entry))
+      → Calls next left bytes at pieces rest → Calls session rooms bytes place pieces (text entry (left .output) ++ rest)
+  -- a call finds the end record: it is the last
+  ends : {session next : Session} {rooms left : Rooms} {bytes : List ℕ} {place at : ℕ} {pieces : List (List ℕ)}
+      → sessionStep session rooms bytes place (none pieces) ≡ (((next, at), left), ok ended)
+      → Calls session rooms bytes place pieces []
+  -- a call finds a fault of the file: it is listed, and it is the last
+  stops : {session next : Session} {rooms left : Rooms} {bytes : List ℕ} {place at : ℕ} {pieces : List (List ℕ)} {refusal : Numbered}
+      → sessionStep session rooms bytes place (none pieces) ≡ (((next, at), left), ok (stopped refusal))
+      → Calls session rooms bytes place pieces (text (refused refusal) (left .output))
+
+-- rooms at a session's start: store and output all zero
+pub record Zeroed (rooms : Rooms) : Type 0 where
+  pub store-zero : rooms .store ≡ replicate storeLength 0
+  pub output-zero : rooms .output ≡ replicate longestLine 0
+
+-- rooms of the right lengths for table and rows
+pub record RightLengths (rooms : Rooms) : Type 0 where
+  pub table-long : length (rooms .table) ≡ longestTable
+  pub normal-long : length (rooms .normal) ≡ longestNormal
+  pub overlay-long : length (rooms .overlay) ≡ longestOverlay
+
+-- what is held has its sizes: store and output their lengths, table and rows no more than there is room for, and the state its arrays
+pub record Roomy (held : Held) : Type 0 where
+  pub store-long : length (held .chip .1) ≡ storeLength
+  pub table-held : length (held .table) ≤ longestTable
+  pub normal-held : length (held .normal) ≤ longestNormal
+  pub overlay-held : length (held .overlay) ≤ longestOverlay
+  pub output-long : length (held .output) ≡ longestLine
+  pub state-whole : Whole (held .chip .0)

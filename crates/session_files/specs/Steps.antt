@@ -1,0 +1,33 @@
+-- Steps over a file that is lent in pieces.
+use Prim.Native.Nat.{ℕ}
+use mathlib.Core.Path.{_≡_}
+use mathlib.Core.Bool.{Bool, true, false}
+use mathlib.Core.List.{List, [], _∷_, _++_}
+use lib.ListN.{drop}
+use Rattle.rules.specs.Faults.{Numbered}
+use Rattle.session_listing.specs.Text.{Listed, refused, text}
+use Rattle.session_answers.specs.Came.{listed, ended, waits, stopped}
+use Rattle.session.specs.Held.{Held}
+use Rattle.session.specs.Record.{stepped}
+
+-- no piece is to come: the file ends with the bytes that are lent
+abbrev pub none : List (List ℕ) → Bool
+none [] = true
+none (piece ∷ pieces) = false
+
+-- steps one after another: from what is held, the bytes that are lent and unread, and the pieces to come, they list a text
+pub data Steps : Held → List ℕ → List (List ℕ) → List ℕ → Type 0 where
+  -- a step waits: the next piece is lent behind what is unread
+  lends : {held : Held} {unread piece : List ℕ} {pieces : List (List ℕ)} {rest : List ℕ}
+      → stepped false held unread .1 ≡ waits
+      → Steps held (unread ++ piece) pieces rest → Steps held unread (piece ∷ pieces) rest
+  -- a step lists an entry: the next one starts behind its record
+  lists : {held after : Held} {unread : List ℕ} {pieces : List (List ℕ)} {rest : List ℕ} {taken : ℕ} {entry : Listed}
+      → stepped (none pieces) held unread ≡ ((after, taken), listed entry)
+      → Steps after (drop taken unread) pieces rest → Steps held unread pieces (text entry (after .output) ++ rest)
+  -- a step finds the end record: nothing more is read
+  ends : {held : Held} {unread : List ℕ} {pieces : List (List ℕ)}
+      → stepped (none pieces) held unread .1 ≡ ended → Steps held unread pieces []
+  -- a step finds a fault of the file: it is listed, and nothing more is read
+  stops : {held : Held} {unread : List ℕ} {pieces : List (List ℕ)} {refusal : Numbered}
+      → stepped (none pieces) held unread .1 ≡ stopped refusal → Steps held unread pieces (text (refused refusal) (held .output))

@@ -1,0 +1,61 @@
+-- The parts of each entry, and the first line that they make. Assumes nothing.
+use Prim.Native.Nat.{ℕ, zero, suc, min}
+use mathlib.Core.Path.{_≡_, refl, ap, _∙_}
+use mathlib.Core.List.{List, [], _∷_, _++_, append-assoc, append-nil}
+use native.Mathlib.Nat.{min-le-right}
+use native.Mathlib.Omega.{arith}
+use lib.ListN.{take}
+use lib.Seq.{take-nil}
+use Rattle.refusals.specs.Refusal.{numberOf, placeOf}
+use Rattle.refusals.specs.declared.Refusal.{Refusal}
+use Rattle.refusals.proofs.Known.{one-value}
+use Rattle.session_listing.specs.Digits.{decimal}
+use Rattle.session_listing.specs.Text.{said, spaced}
+use Rattle.session_listing.specs.Inner.{Told}
+use Rattle.session_listing.specs.declared.entry.Entry.{Entry}
+use Rattle.session_listing.specs.declared.entry.Entry.the-variants.{Ok, At, Line, Refused}
+
+-- a number alone
+pub one-spaced : (number : ℕ) → 32 ∷ decimal number ≡ spaced (number ∷ [])
+one-spaced number = rw append-nil
+
+module _ (word : List ℕ) (first second : ℕ) where
+  -- the line of a word and so many numbers
+  abbrev made : ℕ → List ℕ
+  made numbers = word ++ spaced (take numbers (first ∷ second ∷ []))
+
+  -- none
+  pub no-number : {numbers : ℕ} → numbers ≡ 0 → word ≡ made numbers
+  no-number is = rw (is, append-nil)
+
+  -- one
+  pub one-number : {numbers : ℕ} → numbers ≡ 1 → word ++ spaced (first ∷ []) ≡ made numbers
+  one-number is = rw is
+
+  -- both
+  pub two-numbers : (numbers : ℕ) → (numbers ≡ 0 → ⊥) → (numbers ≡ 1 → ⊥) → (word ++ spaced (first ∷ [])) ++ spaced (second ∷ []) ≡ made numbers
+  two-numbers zero some more = absurd (some refl)
+  two-numbers (suc zero) some more = absurd (more refl)
+  two-numbers (suc (suc numbers)) some more =
+      append-assoc word (spaced (first ∷ [])) (spaced (second ∷ []))
+      ∙ ap (λ (rest : List ℕ). word ++ rest) (rw (take-nil numbers, append-nil (decimal first)))
+
+module _ {entry : Entry} (count : ℕ) where
+  -- what is done
+  pub told-ok : entry ≡ Ok → Told (said entry) count (record { from = 0; letters = 2; numbers = 0; first = 0; second = 0; shown = 0 })
+  told-ok is = rw is (record { says = refl; shows = refl; few = omega arith; inside = omega arith; short = omega arith })
+
+  -- a position
+  pub told-at : {x y : ℕ} → entry ≡ At x y → Told (said entry) count (record { from = 2; letters = 2; numbers = 2; first = x; second = y; shown = 0 })
+  told-at is = rw is (record { says = refl; shows = refl; few = omega arith; inside = omega arith; short = omega arith })
+
+  -- a drawn line
+  pub told-line : {y width shown : ℕ} → entry ≡ Line y width → shown ≡ min width count
+      → Told (said entry) count (record { from = 4; letters = 4; numbers = 1; first = y; second = 0; shown = shown })
+  told-line {width = width} is shows = rw is (record { says = refl; shows = shows; few = rw shows (min-le-right width count); inside = omega arith; short = omega arith })
+
+  -- a refusal, which has one value
+  pub told-refused : {refusal : Refusal} {number place : ℕ} → entry ≡ Refused refusal → number ≡ numberOf refusal → place ≡ placeOf refusal
+      → Told (said entry) count (record { from = 8; letters = 7; numbers = 2; first = number; second = place; shown = 0 })
+  told-refused {refusal} is number-is place-is =
+      rw is (record { says = rw (number-is, place-is, one-value refusal); shows = refl; few = omega arith; inside = omega arith; short = omega arith })

@@ -1,0 +1,41 @@
+-- What the functions that put text say of it.
+use Prim.Native.Nat.{ℕ, _+_, _≤_, min}
+use mathlib.Core.Path.{_≡_}
+use mathlib.Core.List.{List, [], _∷_, _++_}
+use lib.ListN.{length, take, drop}
+use lib.Seq.{sets}
+use Rattle.session_listing.specs.Text.{ascii, Listed, ok, at, line, refused, ended, spaced, pixels, words}
+use Rattle.session_listing.specs.declared.parts.Parts.{Parts}
+
+-- some bytes are put into lent ones, from a place on: what these are left as, and the place after the bytes, which is none past the end
+pub record Put (lent : List ℕ) (place : ℕ) (bytes left : List ℕ) (next : ℕ) : Type 0 where
+  pub stored : left ≡ sets lent place bytes
+  pub after : next ≡ place + length bytes
+  pub fits : next ≤ length lent
+
+-- the words, one behind another
+abbrev pub allWords : List ℕ
+allWords = ascii "okatlinerefused"
+
+-- the first line of some parts
+abbrev pub lineOf : Parts → List ℕ
+lineOf parts = take (parts .letters) (drop (parts .from) allWords) ++ spaced (take (parts .numbers) (parts .first ∷ parts .second ∷ []))
+
+-- the first line, and each of some colours on a line of its own
+abbrev pub lineAnd : Parts → List ℕ → List ℕ
+lineAnd parts colours = ended (lineOf parts) ++ pixels colours
+
+-- how many colours an entry shows of so many
+abbrev pub shownOf : Listed → ℕ → ℕ
+shownOf ok count = 0
+shownOf (at x y) count = 0
+shownOf (line y width) count = min width count
+shownOf (refused refusal) count = 0
+
+-- these parts are an entry's, where the output has so many colours
+pub record Told (listed : Listed) (count : ℕ) (parts : Parts) : Type 0 where
+  pub says : lineOf parts ≡ words listed
+  pub shows : parts .shown ≡ shownOf listed count
+  pub few : parts .shown ≤ count
+  pub inside : parts .from + parts .letters ≤ 15
+  pub short : parts .letters ≤ 7

@@ -1,0 +1,41 @@
+// Entries rendered into lent bytes.
+ghost use Prim.Native.Nat.{_+_, _*_, _≤_};
+ghost use mathlib.Core.Path.{_≡_};
+ghost use lib.ListN.{length, take};
+ghost use Rattle.session_listing.specs.Text.{said};
+ghost use Rattle.session_listing.specs.Room.{rendered};
+ghost use Rattle.session_listing.specs.Inner.{Put, lineAnd};
+use crate::entry::Entry;
+use crate::parts::Parts;
+use crate::put::put_parts;
+use crate::put::put_pixels;
+
+// The place after the text put, or that there was no room for it.
+pub enum Rendered {
+    To(usize),
+    NoRoom,
+}
+
+// A first line and the pixels that follow it.
+fn put_entry(parts: Parts, output: &[u32], lent: &mut [u8], at: usize) -> usize
+    requires { ⌜ (parts .from + parts .letters ≤ 15) × (parts .letters ≤ 7) × (parts .shown ≤ length (now output)) × (at + (32 + 7 * parts .shown) ≤ length (now lent)) ⌝ }
+    ensures { λ r. ⌜ Put (now (lent .entry)) at (lineAnd parts (take (parts .shown) (now (output .entry)))) (now (lent .exit)) r ⌝ }
+{
+    let last = put_parts(lent, at, parts);
+    lent[last] = b'\n';
+    put_pixels(lent, last + 1, output, parts.shown)
+}
+
+// An entry's text from a place on, where there is room.
+pub fn render(entry: Entry, output: &[u32], text: &mut [u8], at: usize) -> Rendered
+    ensures { λ r. ⌜ (r, now (text .exit)) ≡ rendered (said entry) (now (output .entry)) (now (text .entry)) at ⌝ }
+{
+    let parts = Parts::of(entry, output.len());
+    if text.len() < at {
+        return Rendered::NoRoom;
+    }
+    if text.len() - at < 32 + 7 * parts.shown {
+        return Rendered::NoRoom;
+    }
+    Rendered::To(put_entry(parts, output, text, at))
+}

@@ -1,0 +1,51 @@
+-- The tags, and the lengths of a body that each allows.
+use Prim.Native.Nat.{ℕ}
+use mathlib.Core.Bool.{Bool, _&&_}
+use mathlib.Core.List.{List, [], _∷_}
+use lib.Dec.{leb, ltb}
+use lib.ListN.{length, getD}
+use Rattle.session_records.specs.declared.tags.Lengths.{Lengths}
+
+-- one length alone
+abbrev pub just : ℕ → Lengths
+just length = record { least = length; most = length }
+
+-- every length up to one
+abbrev pub upTo : ℕ → Lengths
+upTo length = record { least = 0; most = length }
+
+-- the bytes of the longest normal row
+abbrev pub longestNormal : ℕ
+longestNormal = 8192
+
+-- of the longest overlay row
+abbrev pub longestOverlay : ℕ
+longestOverlay = 2048
+
+-- of the longest table, all records of it together
+abbrev pub longestTable : ℕ
+longestTable = 65536
+
+-- the most dots of a record
+abbrev pub mostDots : ℕ
+mostDots = 16777216
+
+-- the most records of a file
+abbrev pub mostRecords : ℕ
+mostRecords = 1000000
+
+-- by tag: 0 end, 1 write, 2 dots, 3 table bytes, 4 normal row, 5 overlay row, 6 line; table bytes have any length that two bytes can say
+abbrev pub allowed : List Lengths
+allowed = just 0 ∷ just 8 ∷ just 4 ∷ upTo 65535 ∷ upTo longestNormal ∷ upTo longestOverlay ∷ just 2 ∷ []
+
+-- there is such a tag
+abbrev pub known : ℕ → Bool
+known tag = ltb tag (length allowed)
+
+-- the lengths of a tag
+abbrev pub lengthsOf : ℕ → Lengths
+lengthsOf tag = getD allowed tag (just 0)
+
+-- a tag allows a length
+unfoldable pub allows : ℕ → ℕ → Bool
+allows tag length = leb (lengthsOf tag .least) length && leb length (lengthsOf tag .most)

@@ -1,0 +1,80 @@
+// A record at a place of some bytes: which it is, or why there is none.
+ghost use mathlib.Core.Path.{_≡_};
+ghost use mathlib.Core.Bool.{true, false};
+ghost use lib.ListN.{drop};
+ghost use Rattle.session_records.specs.Faults.{wrong, missing};
+ghost use Rattle.session_records.specs.Found.{found};
+use crate::faults::missing;
+use crate::faults::too_much;
+use crate::faults::wrong;
+use crate::parts::length_of;
+use crate::parts::record_of;
+use refusals::Refusal;
+
+// A record, with the numbers in its body. The bytes of a table or a row stay where they are.
+pub enum Record {
+    End,
+    Write { address: u32, value: u32 },
+    Dots(u32),
+    Table,
+    Normal,
+    Overlay,
+    Line(u32),
+}
+
+// What a record is judged by besides its bytes: its number, how many table bytes stand before it, and whether the file ends with the bytes that are lent.
+pub struct Context {
+    pub number: u32,
+    pub table: usize,
+    pub last: bool,
+}
+
+// What stands at a place: a record whose body has so many bytes, the beginning of one, or a fault.
+pub enum Found {
+    Is { record: Record, length: usize },
+    More,
+    Refused(Refusal),
+}
+
+// What stands at the front of bytes that end before their record does.
+fn beginning(bytes: &[u8], context: Context) -> Found
+    requires { ⌜ (wrong (now bytes) ≡ false) × (missing (now bytes) ≡ true) ⌝ }
+    ensures { λ r. ⌜ r ≡ found context (now (bytes .entry)) ⌝ }
+{
+    if !context.last {
+        return Found::More;
+    }
+    if too_much(bytes, context) {
+        return Found::Refused(Refusal::TooMuch(context.number));
+    }
+    Found::Refused(Refusal::FileEnds(context.number))
+}
+
+// What stands at the front of the bytes.
+fn front(bytes: &[u8], context: Context) -> Found
+    ensures { λ r. ⌜ r ≡ found context (now (bytes .entry)) ⌝ }
+{
+    if wrong(bytes) {
+        return Found::Refused(Refusal::WrongRecord(context.number));
+    }
+    if missing(bytes) {
+        return beginning(bytes, context);
+    }
+    if too_much(bytes, context) {
+        return Found::Refused(Refusal::TooMuch(context.number));
+    }
+    Found::Is {
+        record: record_of(bytes),
+        length: length_of(bytes),
+    }
+}
+
+// What stands at a place of the bytes; past their end no bytes are there.
+pub fn record_at(bytes: &[u8], place: usize, context: Context) -> Found
+    ensures { λ r. ⌜ r ≡ found context (drop place (now (bytes .entry))) ⌝ }
+{
+    if place < bytes.len() {
+        return front(&bytes[place..], context);
+    }
+    front(&bytes[..0], context)
+}

@@ -1,0 +1,66 @@
+// What a step of a session is lent: how much is held, and how long each room is.
+ghost use mathlib.Core.Path.{_≡_};
+ghost use Rattle.rules.specs.Checked.{verdict};
+ghost use Rattle.refusals.specs.Refusal.{fitTold};
+ghost use Rattle.session_rooms.specs.Rooms.{tooMuchHeld, roomFaults, lentFaults};
+use refusals::Fit;
+use refusals::Refusal;
+
+// How many bytes of table and rows are there.
+pub struct Counts {
+    pub table: usize,
+    pub normal: usize,
+    pub overlay: usize,
+}
+
+// Whether so many bytes of table and rows are more than there is room for.
+fn too_much_held(table: usize, normal: usize, overlay: usize) -> bool
+    ensures { λ r. ⌜ r ≡ tooMuchHeld table normal overlay ⌝ }
+{
+    if 65536 < table {
+        return true;
+    }
+    if 8192 < normal {
+        return true;
+    }
+    2048 < overlay
+}
+
+// The lengths of the rooms, at the lowest place: 5.
+fn rooms_fit(store: usize, table: usize, normal: usize, overlay: usize, output: usize) -> Fit
+    ensures { λ r. ⌜ fitTold r ≡ verdict (roomFaults store table normal overlay output) ⌝ }
+{
+    if store != 4963 {
+        return Fit::Refused(Refusal::StoreLength);
+    }
+    if table != 65536 {
+        return Fit::Refused(Refusal::TableLength);
+    }
+    if normal != 8192 {
+        return Fit::Refused(Refusal::NormalLength);
+    }
+    if overlay != 2048 {
+        return Fit::Refused(Refusal::OverlayLength);
+    }
+    if output != 2048 {
+        return Fit::Refused(Refusal::OutputLength);
+    }
+    Fit::Yes
+}
+
+// Whether a step may go on with what it is lent: 11, and then 5.
+pub fn fit(
+    held: Counts,
+    store: usize,
+    table: usize,
+    normal: usize,
+    overlay: usize,
+    output: usize,
+) -> Fit
+    ensures { λ r. ⌜ fitTold r ≡ verdict (lentFaults held store table normal overlay output) ⌝ }
+{
+    if too_much_held(held.table, held.normal, held.overlay) {
+        return Fit::Refused(Refusal::BadState);
+    }
+    rooms_fit(store, table, normal, overlay, output)
+}
