@@ -2,7 +2,7 @@
 use Prim.Native.Nat.{ℕ}
 use Rattle.rules.specs.Rule.{Outcome, ok, refused}
 use Rattle.rules.specs.Faults.{Numbered}
-use Rattle.c_numbers.specs.Numbers.{number}
+use Rattle.c_numbers.specs.Numbers.{yesNo}
 use Rattle.chip_timing.specs.declared.Signals.{Signals}
 use Rattle.chip.specs.declared.dots.Report.{Report}
 use Rattle.chip.specs.declared.dots.Report.the-variants.{Nothing, Last}
@@ -29,7 +29,7 @@ inNumbers Nothing = record { reported = 0; hsync = 0; vsync = 0; blank = 0 }
 inNumbers (Last signals) =
     record {
       reported = 1;
-      hsync = number (signals .hsync);
-      vsync = number (signals .vsync);
-      blank = number (signals .blank);
+      hsync = yesNo (signals .hsync);
+      vsync = yesNo (signals .vsync);
+      blank = yesNo (signals .blank);
     }

@@ -5,16 +5,15 @@ ghost use Rattle.line.specs.Cells.{lentOf};
 ghost use Rattle.c_chip.specs.Calls.{writtenInNumbers, readInNumbers, dottedInNumbers, ranInNumbers, drawnInNumbers};
 use crate::numbers::Reported;
 use crate::numbers::in_numbers;
+use crate::numbers::of_answer;
 use crate::numbers::of_dot;
 use crate::numbers::of_dots;
-use crate::numbers::of_line;
 use crate::numbers::of_read;
-use crate::numbers::of_write;
 use crate::numbers::report_of_dot;
 use crate::numbers::report_of_dots;
 use crate::numbers::word_of;
-use chip::state::State;
 use c_numbers::Refused;
+use chip::state::State;
 
 // What a write answers.
 #[repr(C)]
@@ -69,7 +68,7 @@ pub extern "C" fn bulitampaw_write(
     let next = written.state;
     Written {
         state: next,
-        refusal: of_write(answer),
+        refusal: of_answer(answer),
     }
 }
 
@@ -136,6 +135,6 @@ pub extern "C" fn bulitampaw_line(
     let next = drawn.state;
     Drawn {
         state: next,
-        refusal: of_line(answer),
+        refusal: of_answer(answer),
     }
 }

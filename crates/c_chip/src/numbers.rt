@@ -1,17 +1,17 @@
 // The chip's answers in plain numbers.
 ghost use mathlib.Core.Path.{_≡_};
+ghost use Rattle.refusals.specs.Refusal.{answerOutcome};
 ghost use Rattle.c_numbers.specs.Numbers.{refusalOf};
-ghost use Rattle.chip.specs.Write.{told as toldOfWrite};
-ghost use Rattle.chip.specs.Read.{told as toldOfRead};
-ghost use Rattle.chip.specs.Dot.{told as toldOfDot};
-ghost use Rattle.chip.specs.Dots.{told as toldOfDots};
-ghost use Rattle.line.specs.Drawn.{told as toldOfLine};
+ghost use Rattle.chip.specs.Read.{readOutcome};
+ghost use Rattle.chip.specs.Dot.{dotOutcome};
+ghost use Rattle.chip.specs.Dots.{dotsOutcome};
 ghost use Rattle.c_chip.specs.Reports.{wordOf, reportOfDot, reportOfDots, inNumbers};
-use chip::dots::Report;
 use c_numbers::Refused;
 use c_numbers::nothing;
-use c_numbers::number;
 use c_numbers::refused_by;
+use c_numbers::yes_no;
+use chip::dots::Report;
+use refusals::Answer;
 
 // Whether a dot was made, and the signals of the last one, each 1 or 0.
 #[repr(C)]
@@ -22,83 +22,73 @@ pub struct Reported {
     pub blank: u32,
 }
 
-// Of a write.
-pub(crate) fn of_write(answer: chip::write::Answer) -> Refused
-    ensures { λ r. ⌜ r ≡ refusalOf (toldOfWrite answer) ⌝ }
+// Of a write or a line.
+pub(crate) fn of_answer(answer: Answer) -> Refused
+    ensures { λ r. ⌜ r ≡ refusalOf (answerOutcome answer) ⌝ }
 {
     match answer {
-        chip::write::Answer::Done => nothing(),
-        chip::write::Answer::Refused(refusal) => refused_by(refusal),
+        Answer::Done => nothing(),
+        Answer::Refused(refusal) => refused_by(refusal),
     }
 }
 
 // Of a read.
-pub(crate) fn of_read(answer: chip::read::Answer) -> Refused
-    ensures { λ r. ⌜ r ≡ refusalOf (toldOfRead answer) ⌝ }
+pub(crate) fn of_read(answer: chip::read::ReadAnswer) -> Refused
+    ensures { λ r. ⌜ r ≡ refusalOf (readOutcome answer) ⌝ }
 {
     match answer {
-        chip::read::Answer::Word(_) => nothing(),
-        chip::read::Answer::Refused(refusal) => refused_by(refusal),
+        chip::read::ReadAnswer::Word(_) => nothing(),
+        chip::read::ReadAnswer::Refused(refusal) => refused_by(refusal),
     }
 }
 
 // Of a dot.
-pub(crate) fn of_dot(answer: chip::dot::Answer) -> Refused
-    ensures { λ r. ⌜ r ≡ refusalOf (toldOfDot answer) ⌝ }
+pub(crate) fn of_dot(answer: chip::dot::DotAnswer) -> Refused
+    ensures { λ r. ⌜ r ≡ refusalOf (dotOutcome answer) ⌝ }
 {
     match answer {
-        chip::dot::Answer::Reported(_) => nothing(),
-        chip::dot::Answer::Refused(refusal) => refused_by(refusal),
+        chip::dot::DotAnswer::Reported(_) => nothing(),
+        chip::dot::DotAnswer::Refused(refusal) => refused_by(refusal),
     }
 }
 
 // Of a run of dots.
-pub(crate) fn of_dots(answer: chip::dots::Answer) -> Refused
-    ensures { λ r. ⌜ r ≡ refusalOf (toldOfDots answer) ⌝ }
+pub(crate) fn of_dots(answer: chip::dots::DotsAnswer) -> Refused
+    ensures { λ r. ⌜ r ≡ refusalOf (dotsOutcome answer) ⌝ }
 {
     match answer {
-        chip::dots::Answer::Reported(_) => nothing(),
-        chip::dots::Answer::Refused(refusal) => refused_by(refusal),
-    }
-}
-
-// Of a line.
-pub(crate) fn of_line(answer: line::draw::Answer) -> Refused
-    ensures { λ r. ⌜ r ≡ refusalOf (toldOfLine answer) ⌝ }
-{
-    match answer {
-        line::draw::Answer::Drawn => nothing(),
-        line::draw::Answer::Refused(refusal) => refused_by(refusal),
+        chip::dots::DotsAnswer::Reported(_) => nothing(),
+        chip::dots::DotsAnswer::Refused(refusal) => refused_by(refusal),
     }
 }
 
 // The word that was read, or 0.
-pub(crate) fn word_of(answer: chip::read::Answer) -> u32
-    ensures { λ r. ⌜ r ≡ wordOf (toldOfRead answer) ⌝ }
+pub(crate) fn word_of(answer: chip::read::ReadAnswer) -> u32
+    ensures { λ r. ⌜ r ≡ wordOf (readOutcome answer) ⌝ }
 {
     match answer {
-        chip::read::Answer::Word(word) => word,
-        chip::read::Answer::Refused(_) => 0,
+        chip::read::ReadAnswer::Word(word) => word,
+        chip::read::ReadAnswer::Refused(_) => 0,
     }
 }
 
 // What a dot reported.
-pub(crate) fn report_of_dot(answer: chip::dot::Answer) -> Report
-    ensures { λ r. ⌜ r ≡ reportOfDot (toldOfDot answer) ⌝ }
+pub(crate) fn report_of_dot(answer: chip::dot::DotAnswer) -> Report
+    ensures { λ r. ⌜ r ≡ reportOfDot (dotOutcome answer) ⌝ }
 {
     match answer {
-        chip::dot::Answer::Reported(signals) => Report::Last(signals),
-        chip::dot::Answer::Refused(_) => Report::Nothing,
+        chip::dot::DotAnswer::Reported(signals) => Report::Last(signals),
+        chip::dot::DotAnswer::Refused(_) => Report::Nothing,
     }
 }
 
 // What a run of dots reported.
-pub(crate) fn report_of_dots(answer: chip::dots::Answer) -> Report
-    ensures { λ r. ⌜ r ≡ reportOfDots (toldOfDots answer) ⌝ }
+pub(crate) fn report_of_dots(answer: chip::dots::DotsAnswer) -> Report
+    ensures { λ r. ⌜ r ≡ reportOfDots (dotsOutcome answer) ⌝ }
 {
     match answer {
-        chip::dots::Answer::Reported(report) => report,
-        chip::dots::Answer::Refused(_) => Report::Nothing,
+        chip::dots::DotsAnswer::Reported(report) => report,
+        chip::dots::DotsAnswer::Refused(_) => Report::Nothing,
     }
 }
 
@@ -115,9 +105,9 @@ pub(crate) fn in_numbers(report: Report) -> Reported
         },
         Report::Last(signals) => Reported {
             reported: 1,
-            hsync: number(signals.hsync),
-            vsync: number(signals.vsync),
-            blank: number(signals.blank),
+            hsync: yes_no(signals.hsync),
+            vsync: yes_no(signals.vsync),
+            blank: yes_no(signals.blank),
         },
     }
 }

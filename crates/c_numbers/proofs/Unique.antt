@@ -1,12 +1,12 @@
 -- No second answer meets a contract of this crate. Assumes nothing.
 use Rattle.rules.specs.Unique.{OneAnswer}
 use Rattle.rules.proofs.Unique.{by-equation}
-use Rattle.c_numbers.proofs.number.Reads as number
+use Rattle.c_numbers.proofs.yes_no.Reads as yes-no
 use Rattle.c_numbers.proofs.nothing.Reads as nothing
 use Rattle.c_numbers.proofs.refused_by.Reads as refused-by
 
-pub number-unique : OneAnswer number.Post
-number-unique = by-equation _ _
+pub yes-no-unique : OneAnswer yes-no.Post
+yes-no-unique = by-equation _ _
 
 pub nothing-unique : OneAnswer nothing.Post
 nothing-unique = by-equation _ _

@@ -6,9 +6,9 @@ use Rattle.rules.specs.Faults.{Numbered, placeIn}
 use Rattle.c_numbers.specs.declared.Refused.{Refused}
 
 -- yes and no
-abbrev pub number : Bool → ℕ
-number true = 1
-number false = 0
+abbrev pub yesNo : Bool → ℕ
+yesNo true = 1
+yesNo false = 0
 
 -- nothing is refused
 abbrev pub nothing : Refused

@@ -1,7 +1,7 @@
 // Answers in plain numbers, as C takes them.
 ghost use mathlib.Core.Path.{_≡_};
 ghost use Rattle.refusals.specs.Refusal.{numbered};
-ghost use Rattle.c_numbers.specs.Numbers.{number, nothing, refusedBy};
+ghost use Rattle.c_numbers.specs.Numbers.{yesNo, nothing, refusedBy};
 use refusals::Refusal;
 
 // A refusal's number and place; both 0 where there is none.
@@ -12,8 +12,8 @@ pub struct Refused {
 }
 
 // A yes as 1, a no as 0.
-pub fn number(yes: bool) -> u32
-    ensures { λ r. ⌜ r ≡ number yes ⌝ }
+pub fn yes_no(yes: bool) -> u32
+    ensures { λ r. ⌜ r ≡ yesNo yes ⌝ }
 {
     if yes { 1 } else { 0 }
 }

@@ -1,13 +1,13 @@
 -- The two questions that C asks: 1 for yes, 0 for no.
 use Prim.Native.Nat.{ℕ, _%_, _^_}
-use Rattle.c_numbers.specs.Numbers.{number}
+use Rattle.c_numbers.specs.Numbers.{yesNo}
 use Rattle.chip_timing.specs.Window.{inWindow}
 use Rattle.line_colour.specs.Entry.{decoded, isDefined}
 
 -- whether an entry, of which the low 13 bits count, is defined at a depth
 unfoldable pub entryDefined : ℕ → ℕ → ℕ
-entryDefined entry depth = number (isDefined (decoded (entry % 2 ^ 13) depth))
+entryDefined entry depth = yesNo (isDefined (decoded (entry % 2 ^ 13) depth))
 
 -- whether a signal holds at p, by its window from on to off
 unfoldable pub signalHolds : ℕ → ℕ → ℕ → ℕ
-signalHolds on off p = number (inWindow on off p)
+signalHolds on off p = yesNo (inWindow on off p)

@@ -1,8 +1,8 @@
 // The two questions that C asks: plain numbers in, a plain number out.
 ghost use mathlib.Core.Path.{_≡_};
 ghost use Rattle.c_questions.specs.Questions.{entryDefined, signalHolds};
+use c_numbers::yes_no;
 use line_colour::entry::Decoded;
-use c_numbers::number;
 
 // Whether a window entry is defined at a depth: 1 or 0.
 #[no_mangle]
@@ -21,5 +21,5 @@ pub extern "C" fn bulitampaw_entry_defined(entry: u32, depth: u32) -> u32
 pub extern "C" fn bulitampaw_signal_holds(on: u32, off: u32, p: u32) -> u32
     ensures { λ r. ⌜ r ≡ signalHolds on off p ⌝ }
 {
-    number(chip_timing::in_window(on, off, p))
+    yes_no(chip_timing::in_window(on, off, p))
 }

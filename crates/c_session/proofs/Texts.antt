@@ -14,15 +14,15 @@ use Rattle.rules.specs.Checked.{verdict}
 use Rattle.rules.proofs.Faults.{accepted-clear}
 use Rattle.rules.proofs.Last.{firstOr, last-clear, last-holds}
 use Rattle.c_numbers.specs.Numbers.{refusedBy}
-use Rattle.session_listing.specs.Text.{Listed, shown, text}
+use Rattle.session_listing.specs.Text.{EntrySays, coloursShown, text}
 use Rattle.session_listing.specs.Text as entry
 use Rattle.session_listing.specs.Room.{roomFor}
-use Rattle.session_answers.specs.Came.{Came, listed, ended, waits, stopped}
+use Rattle.session_answers.specs.Status.{Status, listed, ended, needsMore, stopped}
 use Rattle.session_rooms.specs.Rooms.{longestLine, roomFaults}
 use Rattle.session.specs.Lent.{Rooms, laid}
 use Rattle.session.specs.Step.{stepFaults, Left, afterStep, sessionStep}
 use Rattle.session.specs.declared.session.Session.{Session}
-use Rattle.c_session.specs.Steps.{textRoom, shortText, textFault, cameTo, textBy, stepAnswer, stepLeft, stepInNumbers}
+use Rattle.c_session.specs.Steps.{textRoom, shortText, textFault, statusInNumbers, textBy, stepAnswer, stepLeft, stepInNumbers}
 use Rattle.c_session.specs.Inner.{putEntry, putText, orText}
 use Rattle.c_session.specs.declared.steps.Stepped.{Stepped}
 
@@ -38,25 +38,25 @@ by-rooms-or-text [] = refl
 by-rooms-or-text (fault ∷ faults) = by-fault (fault .holds) (fault .refusal) (firstOr faults shortText) (verdict faults) (by-rooms-or-text faults)
 
 -- an entry shows no more colours than the output has
-shown-short : (entry : Listed) (output : List ℕ) → length (shown entry output) ≤ length output
-shown-short entry.ok output = omega arith
-shown-short (entry.at x y) output = omega arith
-shown-short (entry.line y width) output = omega (arith, length-take width output)
-shown-short (entry.refused refusal) output = omega arith
+shown-short : (entry : EntrySays) (output : List ℕ) → length (coloursShown entry output) ≤ length output
+shown-short entry.saysOk output = omega arith
+shown-short (entry.saysAt x y) output = omega arith
+shown-short (entry.saysLine y width) output = omega (arith, length-take width output)
+shown-short (entry.saysRefused refusal) output = omega arith
 
 module _ (output lent : List ℕ) (long : textRoom ≤ length lent) where
   -- in a text long enough an entry has room
-  entry-put : (entry : Listed) → length output ≤ longestLine → putEntry entry output lent ≡ (length (text entry output), laid lent (text entry output))
+  entry-put : (entry : EntrySays) → length output ≤ longestLine → putEntry entry output lent ≡ (length (text entry output), laid lent (text entry output))
   entry-put entry short =
       rw (le-leb (0 + roomFor entry output) (length lent) (omega (arith, shown-short entry output, short, long)), zero-add (length (text entry output))) refl
 
   -- and so has whatever a call comes to
-  text-put : (outcome : Outcome Numbered Came) → ((came : Came) → outcome ≡ ok came → length output ≤ longestLine)
+  text-put : (outcome : Outcome Numbered Status) → ((came : Status) → outcome ≡ ok came → length output ≤ longestLine)
       → putText outcome output lent ≡ (length (textBy outcome output), laid lent (textBy outcome output))
   text-put (ok (listed entry)) short = entry-put entry (short (listed entry) refl)
   text-put (ok ended) short = refl
-  text-put (ok waits) short = refl
-  text-put (ok (stopped refusal)) short = entry-put (entry.refused refusal) (short (stopped refusal) refl)
+  text-put (ok needsMore) short = refl
+  text-put (ok (stopped refusal)) short = entry-put (entry.saysRefused refusal) (short (stopped refusal) refl)
   text-put (refused refusal) short = refl
 
 module _ (session : Session) (rooms : Rooms) (lent bytes : List ℕ) (place : ℕ) (last : Bool) where
@@ -68,18 +68,18 @@ module _ (session : Session) (rooms : Rooms) (lent bytes : List ℕ) (place : �
   unfolding stepInNumbers
   step-short short =
       rw (by-rooms-or-text (stepFaults session rooms))
-      (ap (λ (all : Left × Outcome Numbered Came). stepLeft all lent)
+      (ap (λ (all : Left × Outcome Numbered Status). stepLeft all lent)
       (sym (last-holds ((session, place), rooms) (afterStep session rooms bytes place last) (stepFaults session rooms) (textFault (length lent)) (lt-ltb (length lent) textRoom short))))
 
   -- with a text long enough it is the session's step, with its text in front
   pub step-of-session : textRoom ≤ length lent → stepLeft (sessionStep session rooms bytes place last) lent ≡ stepInNumbers session rooms lent bytes place last
   unfolding stepInNumbers sessionStep
   step-of-session long =
-      ap (λ (all : Left × Outcome Numbered Came). stepLeft all lent)
+      ap (λ (all : Left × Outcome Numbered Status). stepLeft all lent)
       (sym (last-clear ((session, place), rooms) (afterStep session rooms bytes place last) (stepFaults session rooms) (textFault (length lent)) (le-ltb (length lent) textRoom long)))
 
   -- a step that is not refused is lent an output of its length
-  output-room : {came : Came} → sessionStep session rooms bytes place last .1 ≡ ok came → length (rooms .output) ≡ longestLine
+  output-room : {came : Status} → sessionStep session rooms bytes place last .1 ≡ ok came → length (rooms .output) ≡ longestLine
   unfolding sessionStep roomFaults
   output-room {came} e =
       eqb-true (length (rooms .output)) longestLine
@@ -87,15 +87,15 @@ module _ (session : Session) (rooms : Rooms) (lent bytes : List ℕ) (place : �
       (accepted-clear ((session, place), rooms) (afterStep session rooms bytes place last) (stepFaults session rooms) came e .1 .1 .1 .1 .1 .0))
 
   -- a step and its text, from what the session's step and the putting of its text left
-  pub step-made : {left : Left × Outcome Numbered Came} {put : ℕ × List ℕ} → left ≡ sessionStep session rooms bytes place last
+  pub step-made : {left : Left × Outcome Numbered Status} {put : ℕ × List ℕ} → left ≡ sessionStep session rooms bytes place last
       → put ≡ putText (left .1) (left .0 .1 .output) lent → length (left .0 .1 .output) ≡ length (rooms .output) → textRoom ≤ length lent
       → _≡_ {A = Stepped × (Rooms × List ℕ)}
-      (stepAnswer (left .0 .0) (cameTo (left .1)) (put .0), (left .0 .1, put .1))
+      (stepAnswer (left .0 .0) (statusInNumbers (left .1)) (put .0), (left .0 .1, put .1))
       (stepInNumbers session rooms lent bytes place last)
   step-made {left} {put} stepped text-is same long =
-      ap (λ (one : ℕ × List ℕ). (stepAnswer (left .0 .0) (cameTo (left .1)) (one .0), (left .0 .1, one .1)))
+      ap (λ (one : ℕ × List ℕ). (stepAnswer (left .0 .0) (statusInNumbers (left .1)) (one .0), (left .0 .1, one .1)))
       (text-is
       ∙ text-put (left .0 .1 .output) lent long (left .1)
-      (λ came e. omega (arith, same, output-room (ap (λ (all : Left × Outcome Numbered Came). all .1) (sym stepped) ∙ e))))
-      ∙ ap (λ (all : Left × Outcome Numbered Came). stepLeft all lent) stepped
+      (λ came e. omega (arith, same, output-room (ap (λ (all : Left × Outcome Numbered Status). all .1) (sym stepped) ∙ e))))
+      ∙ ap (λ (all : Left × Outcome Numbered Status). stepLeft all lent) stepped
       ∙ step-of-session long

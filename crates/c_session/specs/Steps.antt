@@ -8,15 +8,15 @@ use Rattle.rules.specs.Rule.{Outcome, ok, refused}
 use Rattle.rules.specs.Faults.{Numbered, Fault, unless}
 use Rattle.c_numbers.specs.Numbers.{nothing, refusedBy}
 use Rattle.c_numbers.specs.declared.Refused.{Refused}
-use Rattle.session_listing.specs.Text.{Listed}
+use Rattle.session_listing.specs.Text.{EntrySays}
 use Rattle.session_listing.specs.Text as entry
 use Rattle.session_listing.specs.Room.{roomOf}
-use Rattle.session_answers.specs.Came.{Came, listed, ended, waits, stopped, textOf}
+use Rattle.session_answers.specs.Status.{Status, listed, ended, needsMore, stopped, textOf}
 use Rattle.session_rooms.specs.Rooms.{longestLine}
 use Rattle.session.specs.Lent.{Rooms, laid}
 use Rattle.session.specs.Step.{stepFaults, Left, afterStep}
 use Rattle.session.specs.declared.session.Session.{Session}
-use Rattle.c_session.specs.declared.steps.CameTo.{CameTo}
+use Rattle.c_session.specs.declared.steps.StatusNumbers.{StatusNumbers}
 use Rattle.c_session.specs.declared.steps.Stepped.{Stepped}
 
 -- the bytes in which every entry's text has room: 32, and 7 for each pixel of the longest line
@@ -32,36 +32,36 @@ abbrev pub textFault : ℕ → Fault
 textFault length = record { holds = ltb length textRoom; refusal = shortText }
 
 -- 11, 5 by the rooms, 5 by the text
-abbrev pub callFaults : Session → Rooms → List ℕ → List Fault
-callFaults session rooms lent = stepFaults session rooms ++ textFault (length lent) ∷ []
+abbrev pub stepTextFaults : Session → Rooms → List ℕ → List Fault
+stepTextFaults session rooms lent = stepFaults session rooms ++ textFault (length lent) ∷ []
 
 -- what a call leaves, and what it comes to
-abbrev pub called : Session → Rooms → List ℕ → List ℕ → ℕ → Bool → Left × Outcome Numbered Came
+abbrev pub called : Session → Rooms → List ℕ → List ℕ → ℕ → Bool → Left × Outcome Numbered Status
 called session rooms lent bytes place last =
-    unless (callFaults session rooms lent) ((session, place), rooms) (afterStep session rooms bytes place last)
+    unless (stepTextFaults session rooms lent) ((session, place), rooms) (afterStep session rooms bytes place last)
 
 -- the refusal that an entry lists
-abbrev pub entryRefusal : Listed → Refused
-entryRefusal entry.ok = nothing
-entryRefusal (entry.at x y) = nothing
-entryRefusal (entry.line y width) = nothing
-entryRefusal (entry.refused refusal) = refusedBy refusal
+abbrev pub entryRefusal : EntrySays → Refused
+entryRefusal entry.saysOk = nothing
+entryRefusal (entry.saysAt x y) = nothing
+entryRefusal (entry.saysLine y width) = nothing
+entryRefusal (entry.saysRefused refusal) = refusedBy refusal
 
 -- 0 where the call is refused, 1 for an entry, 2 for the end, 3 for a wait, 4 for a fault of the file
-abbrev pub cameTo : Outcome Numbered Came → CameTo
-cameTo (refused refusal) = record { came = 0; refusal = refusedBy refusal }
-cameTo (ok (listed entry)) = record { came = 1; refusal = entryRefusal entry }
-cameTo (ok ended) = record { came = 2; refusal = nothing }
-cameTo (ok waits) = record { came = 3; refusal = nothing }
-cameTo (ok (stopped refusal)) = record { came = 4; refusal = refusedBy refusal }
+abbrev pub statusInNumbers : Outcome Numbered Status → StatusNumbers
+statusInNumbers (refused refusal) = record { came = 0; refusal = refusedBy refusal }
+statusInNumbers (ok (listed entry)) = record { came = 1; refusal = entryRefusal entry }
+statusInNumbers (ok ended) = record { came = 2; refusal = nothing }
+statusInNumbers (ok needsMore) = record { came = 3; refusal = nothing }
+statusInNumbers (ok (stopped refusal)) = record { came = 4; refusal = refusedBy refusal }
 
 -- the text: that of what it comes to, none where the call is refused
-abbrev pub textBy : Outcome Numbered Came → List ℕ → List ℕ
+abbrev pub textBy : Outcome Numbered Status → List ℕ → List ℕ
 textBy (ok came) output = textOf output came
 textBy (refused refusal) output = []
 
 -- a step
-abbrev pub stepAnswer : Session × ℕ → CameTo → ℕ → Stepped
+abbrev pub stepAnswer : Session × ℕ → StatusNumbers → ℕ → Stepped
 stepAnswer left came text =
     record {
       session = left .0;
@@ -72,10 +72,10 @@ stepAnswer left came text =
     }
 
 -- what it answers and leaves: by what the call left and came to, with the text at the front of the lent bytes
-abbrev pub stepLeft : Left × Outcome Numbered Came → List ℕ → Stepped × (Rooms × List ℕ)
+abbrev pub stepLeft : Left × Outcome Numbered Status → List ℕ → Stepped × (Rooms × List ℕ)
 stepLeft all lent =
     let text = textBy (all .1) (all .0 .1 .output) in
-    (stepAnswer (all .0 .0) (cameTo (all .1)) (length text), (all .0 .1, laid lent text))
+    (stepAnswer (all .0 .0) (statusInNumbers (all .1)) (length text), (all .0 .1, laid lent text))
 
 -- what a call answers and leaves
 unfoldable pub stepInNumbers : Session → Rooms → List ℕ → List ℕ → ℕ → Bool → Stepped × (Rooms × List ℕ)

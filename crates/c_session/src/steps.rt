@@ -3,26 +3,26 @@ ghost use mathlib.Core.Path.{_≡_};
 ghost use mathlib.Core.Bool.{not};
 ghost use lib.Dec.{eqb};
 ghost use Rattle.rules.specs.Checked.{verdict};
-ghost use Rattle.session_listing.specs.Text.{said};
-ghost use Rattle.session_answers.specs.Came.{told};
+ghost use Rattle.session_listing.specs.Text.{entrySays};
+ghost use Rattle.session_answers.specs.Status.{stepOutcome};
 ghost use Rattle.session_rooms.specs.Rooms.{lentFaults};
-ghost use Rattle.session.specs.Held.{empty};
+ghost use Rattle.session.specs.Held.{nothingHeld};
 ghost use Rattle.session.specs.Lent.{roomsOf, sessionOf};
-ghost use Rattle.c_session.specs.Steps.{entryRefusal, cameTo, stepInNumbers};
+ghost use Rattle.c_session.specs.Steps.{entryRefusal, statusInNumbers, stepInNumbers};
 ghost use Rattle.c_session.specs.Inner.{putEntry, putText, orText};
-use session_answers::Answer;
-use session_listing::entry::Entry;
-use session_listing::render::Rendered;
-use session_listing::render::render;
 use c_numbers::Refused;
 use c_numbers::nothing;
 use c_numbers::refused_by;
-use refusals::Fit;
+use refusals::Answer;
 use refusals::Refusal;
-use session_rooms::Counts;
-use session_rooms::fit;
 use session::session::Session;
 use session::step::step;
+use session_answers::StepAnswer;
+use session_listing::entry::ListingEntry;
+use session_listing::render::Rendered;
+use session_listing::render::render;
+use session_rooms::Counts;
+use session_rooms::step_check;
 
 // What a step answers: where the next record starts, how many bytes of text were put, the refusal, and what it comes to.
 #[repr(C)]
@@ -35,7 +35,7 @@ pub struct Stepped {
 }
 
 // What a step comes to, and the refusal that it lists or is answered by.
-pub struct CameTo {
+pub struct StatusNumbers {
     pub came: u32,
     pub refusal: Refused,
 }
@@ -43,45 +43,45 @@ pub struct CameTo {
 // A session before its first record.
 #[no_mangle]
 pub extern "C" fn bulitampaw_fresh_session() -> Session
-    ensures { λ r. ⌜ r ≡ sessionOf empty ⌝ }
+    ensures { λ r. ⌜ r ≡ sessionOf nothingHeld ⌝ }
 {
     Session::new()
 }
 
 // The refusal that an entry lists.
-fn entry_refusal(entry: Entry) -> Refused
-    ensures { λ r. ⌜ r ≡ entryRefusal (said entry) ⌝ }
+fn entry_refusal(entry: ListingEntry) -> Refused
+    ensures { λ r. ⌜ r ≡ entryRefusal (entrySays entry) ⌝ }
 {
     match entry {
-        Entry::Ok => nothing(),
-        Entry::At { x: _, y: _ } => nothing(),
-        Entry::Line { y: _, width: _ } => nothing(),
-        Entry::Refused(refusal) => refused_by(refusal),
+        ListingEntry::Ok => nothing(),
+        ListingEntry::At { x: _, y: _ } => nothing(),
+        ListingEntry::Line { y: _, width: _ } => nothing(),
+        ListingEntry::Refused(refusal) => refused_by(refusal),
     }
 }
 
 // What an answer comes to.
-fn came_to(answer: Answer) -> CameTo
-    ensures { λ r. ⌜ r ≡ cameTo (told answer) ⌝ }
+fn came_to(answer: StepAnswer) -> StatusNumbers
+    ensures { λ r. ⌜ r ≡ statusInNumbers (stepOutcome answer) ⌝ }
 {
     match answer {
-        Answer::Refused(refusal) => CameTo {
+        StepAnswer::Refused(refusal) => StatusNumbers {
             came: 0,
             refusal: refused_by(refusal),
         },
-        Answer::Listed(entry) => CameTo {
+        StepAnswer::Listed(entry) => StatusNumbers {
             came: 1,
             refusal: entry_refusal(entry),
         },
-        Answer::End => CameTo {
+        StepAnswer::End => StatusNumbers {
             came: 2,
             refusal: nothing(),
         },
-        Answer::More => CameTo {
+        StepAnswer::More => StatusNumbers {
             came: 3,
             refusal: nothing(),
         },
-        Answer::Stopped(refusal) => CameTo {
+        StepAnswer::Stopped(refusal) => StatusNumbers {
             came: 4,
             refusal: refused_by(refusal),
         },
@@ -89,8 +89,8 @@ fn came_to(answer: Answer) -> CameTo
 }
 
 // An entry's text at the front, where there is room. Answers how many bytes were put.
-fn put_entry(entry: Entry, output: &[u32], text: &mut [u8]) -> usize
-    ensures { λ r. ⌜ (r, now (text .exit)) ≡ putEntry (said entry) (now (output .entry)) (now (text .entry)) ⌝ }
+fn put_entry(entry: ListingEntry, output: &[u32], text: &mut [u8]) -> usize
+    ensures { λ r. ⌜ (r, now (text .exit)) ≡ putEntry (entrySays entry) (now (output .entry)) (now (text .entry)) ⌝ }
 {
     match render(entry, output, text, 0) {
         Rendered::To(end) => end,
@@ -99,15 +99,15 @@ fn put_entry(entry: Entry, output: &[u32], text: &mut [u8]) -> usize
 }
 
 // The text of what an answer lists, where there is room. Answers how many bytes were put.
-fn put_text(answer: Answer, output: &[u32], text: &mut [u8]) -> usize
-    ensures { λ r. ⌜ (r, now (text .exit)) ≡ putText (told answer) (now (output .entry)) (now (text .entry)) ⌝ }
+fn put_text(answer: StepAnswer, output: &[u32], text: &mut [u8]) -> usize
+    ensures { λ r. ⌜ (r, now (text .exit)) ≡ putText (stepOutcome answer) (now (output .entry)) (now (text .entry)) ⌝ }
 {
     match answer {
-        Answer::Listed(entry) => put_entry(entry, output, text),
-        Answer::Stopped(refusal) => put_entry(Entry::Refused(refusal), output, text),
-        Answer::End => 0,
-        Answer::More => 0,
-        Answer::Refused(_) => 0,
+        StepAnswer::Listed(entry) => put_entry(entry, output, text),
+        StepAnswer::Stopped(refusal) => put_entry(ListingEntry::Refused(refusal), output, text),
+        StepAnswer::End => 0,
+        StepAnswer::More => 0,
+        StepAnswer::Refused(_) => 0,
     }
 }
 
@@ -122,10 +122,10 @@ fn short_of_text(
 ) -> Refused
     ensures { λ r. ⌜ r ≡ orText (verdict (lentFaults held store table normal overlay output)) ⌝ }
 {
-    let fits = fit(held, store, table, normal, overlay, output);
-    match fits {
-        Fit::Refused(refusal) => refused_by(refusal),
-        Fit::Yes => Refused {
+    let allowed = step_check(held, store, table, normal, overlay, output);
+    match allowed {
+        Answer::Refused(refusal) => refused_by(refusal),
+        Answer::Done => Refused {
             number: 5,
             place: 6,
         },

@@ -10,11 +10,11 @@ use Rattle.chip_registers.specs.declared.Block.the-variants.{Control, WindowEnt
 use Rattle.chip_registers.specs.declared.Register.{Register}
 use Rattle.chip.specs.Call.{Chip}
 use Rattle.chip.specs.Write.{putIn}
-use Rattle.chip.specs.Read.{shownIn}
+use Rattle.chip.specs.Read.{blockShows}
 
 module _ (chip : Chip) (register : Register) where
   -- a block in the store shows what is stored
-  pub stored-shown : (block : Block) → inStore block ≡ true → shownIn chip block register ≡ stored (chip .1) register
+  pub stored-shown : (block : Block) → inStore block ≡ true → blockShows chip block register ≡ stored (chip .1) register
   stored-shown Control here = absurd (false≢true here)
   stored-shown WindowEntries here = refl
   stored-shown ColourMap here = refl

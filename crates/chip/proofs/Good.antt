@@ -22,7 +22,7 @@ use Rattle.chip_queue.specs.declared.Waiting.{Waiting}
 use Rattle.chip_queue.specs.declared.Queue.{Queue}
 use Rattle.chip_queue.proofs.Order.{sized-pushed, sized-popped}
 use Rattle.chip_queue.proofs.Rule.{both, says-write, good-pushed, good-popped}
-use Rattle.chip.specs.State.{Whole, fresh, controlWord, withPosition, goodWords, goodState}
+use Rattle.chip.specs.State.{HasArrays, fresh, controlWord, withPosition, goodWords, goodState}
 use Rattle.chip.specs.Call.{Chip}
 use Rattle.chip.specs.Write.{putIn, put}
 use Rattle.chip.specs.Dot.{drains, oldestApplied, moved, afterDot}
@@ -55,7 +55,7 @@ says-good state words x y queue = rw (words, le-leb _ _ x, le-leb _ _ y) queue
 -- ---- a fresh state
 
 -- a fresh state's arrays have their sizes
-pub fresh-whole : Whole fresh
+pub fresh-whole : HasArrays fresh
 fresh-whole = (refl, refl)
 
 -- a fresh state keeps the rule
@@ -86,9 +86,9 @@ not-full queue h = leb-false 64 (queue .waiting) h
 abbrev word-of : Block → ℕ → Register
 word-of block word = record { block = block; word = word }
 
-module _ (chip : Chip) (whole : Whole (chip .0)) where
+module _ (chip : Chip) (whole : HasArrays (chip .0)) where
   -- a write leaves the arrays their sizes, block by block
-  in-whole : (block : Block) (word value : ℕ) → (waitsIn block && full (chip .0 .queue)) ≡ false → Whole (putIn chip block (word-of block word) value .0)
+  in-whole : (block : Block) (word value : ℕ) → (waitsIn block && full (chip .0 .queue)) ≡ false → HasArrays (putIn chip block (word-of block word) value .0)
   in-whole Control word value free = (simp length-set (whole .0), whole .1)
   in-whole WindowEntries word value free = whole
   in-whole ColourMap word value free = (whole .0, sized-pushed (chip .0 .queue) _ (not-full (chip .0 .queue) free) (whole .1))
@@ -128,9 +128,9 @@ module _ (chip : Chip) (register : Register) (value : ℕ) where
   pub put-length : length (put chip register value .1) ≡ length (chip .1)
   put-length = in-length chip (register .block) (register .word) value
 
-  module _ (whole : Whole (chip .0)) (free : (waits register && full (chip .0 .queue)) ≡ false) where
+  module _ (whole : HasArrays (chip .0)) (free : (waits register && full (chip .0 .queue)) ≡ false) where
     -- a write leaves the arrays their sizes
-    pub put-whole : Whole (put chip register value .0)
+    pub put-whole : HasArrays (put chip register value .0)
     put-whole = in-whole chip whole (register .block) (register .word) value free
 
     -- a write that no fault stands against keeps the rule
@@ -154,11 +154,11 @@ module _ (chip : Chip) where
   unfolding afterDot
   dot-length = chosen (λ (after : Chip). length (after .1) ≡ length (chip .1)) (drains (chip .0)) (simp length-set) refl
 
-  module _ (whole : Whole (chip .0)) where
+  module _ (whole : HasArrays (chip .0)) where
     -- a dot leaves the arrays their sizes
-    pub dot-whole : Whole (afterDot chip .0)
+    pub dot-whole : HasArrays (afterDot chip .0)
     unfolding afterDot
-    dot-whole = chosen (λ (after : Chip). Whole (after .0)) (drains (chip .0)) (whole .0, sized-popped (chip .0 .queue) (whole .1)) whole
+    dot-whole = chosen (λ (after : Chip). HasArrays (after .0)) (drains (chip .0)) (whole .0, sized-popped (chip .0 .queue) (whole .1)) whole
 
     -- the oldest write may leave
     applied-good : goodState (chip .0) ≡ true → goodState (oldestApplied chip .0) ≡ true
@@ -187,13 +187,13 @@ dots-length zero chip = refl
 dots-length (suc count) chip = dots-length count (afterDot chip) ∙ dot-length chip
 
 -- so many dots leave the arrays their sizes
-pub dots-whole : (count : ℕ) (chip : Chip) → Whole (chip .0) → Whole (afterDots count chip .0)
+pub dots-whole : (count : ℕ) (chip : Chip) → HasArrays (chip .0) → HasArrays (afterDots count chip .0)
 unfolding afterDots
 dots-whole zero chip whole = whole
 dots-whole (suc count) chip whole = dots-whole count (afterDot chip) (dot-whole chip whole)
 
 -- so many dots keep the rule
-pub dots-good : (count : ℕ) (chip : Chip) → Whole (chip .0) → goodState (chip .0) ≡ true → goodState (afterDots count chip .0) ≡ true
+pub dots-good : (count : ℕ) (chip : Chip) → HasArrays (chip .0) → goodState (chip .0) ≡ true → goodState (afterDots count chip .0) ≡ true
 unfolding afterDots
 dots-good zero chip whole good = good
 dots-good (suc count) chip whole good = dots-good count (afterDot chip) (dot-whole chip whole) (dot-good chip whole good)

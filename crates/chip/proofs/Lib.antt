@@ -1,7 +1,7 @@
 pub mod Blocks
 pub mod Words
 pub mod Good
-pub mod Fit
+pub mod CallCheck
 pub mod Runs
 pub mod Writes
 pub mod Readings

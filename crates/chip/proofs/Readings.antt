@@ -7,19 +7,19 @@ use Rattle.rules.specs.Faults.{Numbered}
 use Rattle.rules.specs.Checked.{verdict}
 use Rattle.refusals.specs.Refusal.{numbered}
 use Rattle.refusals.specs.declared.Refusal.the-variants.{NoRegister}
-use Rattle.chip_registers.specs.Named.{placeOf, named}
+use Rattle.chip_registers.specs.Named.{addressPlace, named}
 use Rattle.chip_registers.specs.declared.Register.{Register}
 use Rattle.chip_registers.specs.declared.Named.{Named}
 use Rattle.chip_registers.specs.declared.Named.the-variants.{Is, Nothing}
 use Rattle.chip.specs.Call.{Chip, callFaults}
-use Rattle.chip.specs.Read.{shown, shownNamed, nameFaults, readFaults, readBack}
-use Rattle.chip.proofs.Fit.{tested, GoesOn, first-then, passes, stops}
+use Rattle.chip.specs.Read.{registerShows, addressShows, nameFaults, readFaults, readBack}
+use Rattle.chip.proofs.CallCheck.{tested, GoesOn, first-then, passes, stops}
 
 module _ (chip : Chip) (address : ℕ) where
   -- a read by its first test, and then by what its address names
   read-test : {first : Outcome Numbered (Unit {0})} {what : Named} → tested chip ≡ first → named address ≡ what
-      → verdict (readFaults chip address) ≡ andThen first (λ passed. verdict (nameFaults what (placeOf address)))
-  read-test e names = rw (sym e, sym names) (first-then (callFaults (chip .0) (length (chip .1))) (nameFaults (named address) (placeOf address)))
+      → verdict (readFaults chip address) ≡ andThen first (λ passed. verdict (nameFaults what (addressPlace address)))
+  read-test e names = rw (sym e, sym names) (first-then (callFaults (chip .0) (length (chip .1))) (nameFaults (named address) (addressPlace address)))
 
   -- 11 and 5
   pub read-unfit : (refusal : Numbered) → tested chip ≡ refused refusal → readBack chip address ≡ (chip, refused refusal)
@@ -28,11 +28,11 @@ module _ (chip : Chip) (address : ℕ) where
 
   module _ (fine : GoesOn chip) where
     -- 1
-    pub read-nowhere : named address ≡ Nothing → readBack chip address ≡ (chip, refused (numbered (NoRegister (placeOf address))))
+    pub read-nowhere : named address ≡ Nothing → readBack chip address ≡ (chip, refused (numbered (NoRegister (addressPlace address))))
     unfolding readBack
     read-nowhere e = stops chip _ (readFaults chip address) _ (read-test fine e)
 
     -- none of them
-    pub read-shown : (register : Register) → named address ≡ Is register → readBack chip address ≡ (chip, ok (shown chip register))
+    pub read-shown : (register : Register) → named address ≡ Is register → readBack chip address ≡ (chip, ok (registerShows chip register))
     unfolding readBack
-    read-shown register e = passes chip _ (readFaults chip address) (read-test fine e) ∙ ap (λ (what : Named). (chip, ok (shownNamed chip what))) e
+    read-shown register e = passes chip _ (readFaults chip address) (read-test fine e) ∙ ap (λ (what : Named). (chip, ok (addressShows chip what))) e

@@ -17,7 +17,7 @@ use Rattle.chip_timing.specs.declared.Walk.{Walk}
 use Rattle.chip_timing.proofs.Walked.{walk-stops, walk-runs, walk-left-le, walk-at}
 use Rattle.chip_registers.specs.Store.{storeLength}
 use Rattle.chip_queue.proofs.Rule.{both}
-use Rattle.chip.specs.State.{controlWord, windowsOf, withPosition, goodState, Whole}
+use Rattle.chip.specs.State.{controlWord, windowsOf, withPosition, goodState, HasArrays}
 use Rattle.chip.specs.Call.{Chip, callFaults}
 use Rattle.chip.specs.Dot.{signalsOf, drains, oldestApplied, moved, afterDot, dotted}
 use Rattle.chip.specs.Dots.{afterDots, lastReport, ran}
@@ -25,7 +25,7 @@ use Rattle.chip.specs.Inner.{walk}
 use Rattle.chip.specs.declared.state.State.{State}
 use Rattle.chip.specs.declared.dots.Report.the-variants.{Nothing, Last}
 use Rattle.chip.proofs.Good.{dot-length, dot-whole, dot-good, placed-good, dots-add}
-use Rattle.chip.proofs.Fit.{tested, GoesOn, passes, stops}
+use Rattle.chip.proofs.CallCheck.{tested, GoesOn, passes, stops}
 
 module _ (state : State) (store : List ℕ) where
   -- a dot that drains the queue applies its oldest write and moves
@@ -124,7 +124,7 @@ walk-blanked state count = by (eqb (state .queue .waiting) 0)
 abbrev pub Underway : Chip → ℕ → Chip → ℕ → Type 0
 Underway start count chip left =
     (length (chip .1) ≡ length (start .1))
-    × Whole (chip .0)
+    × HasArrays (chip .0)
     × (goodState (chip .0) ≡ true)
     × (length (chip .1) ≡ storeLength)
     × (afterDots left chip ≡ afterDots count start)

@@ -15,28 +15,28 @@ use Rattle.chip_registers.specs.declared.Named.the-variants.{Is}
 use Rattle.chip_registers.proofs.Naming.{named-room, named-position}
 use Rattle.chip.specs.State.{goodState}
 use Rattle.chip.specs.Call.{Chip}
-use Rattle.chip.specs.Read.{shownBy, shown, readBack}
+use Rattle.chip.specs.Read.{controlShowsBy, registerShows, readBack}
 use Rattle.chip.specs.declared.state.State.{State}
 use Rattle.chip.proofs.Blocks.{stored-shown}
 use Rattle.chip.proofs.Good.{good-says}
-use Rattle.chip.proofs.Fit.{says-fit}
+use Rattle.chip.proofs.CallCheck.{says-allowed}
 use Rattle.chip.proofs.Readings.{read-shown}
 
 module _ (chip : Chip) (good : goodState (chip .0) ≡ true) (size : length (chip .1) ≡ storeLength) where
   -- a read of what its address names
-  read-named : (address : ℕ) (register : Register) → named address ≡ Is register → readBack chip address .1 ≡ ok (shown chip register)
-  read-named address register names = ap (λ all. all .1) (read-shown chip address (says-fit (chip .0) (length (chip .1)) good size) register names)
+  read-named : (address : ℕ) (register : Register) → named address ≡ Is register → readBack chip address .1 ≡ ok (registerShows chip register)
+  read-named address register names = ap (λ all. all .1) (read-shown chip address (says-allowed (chip .0) (length (chip .1)) good size) register names)
 
   -- control word 9 shows the room in the queue: 64 less waiting
   pub room : readBack chip 0x24 .1 ≡ ok (64 - chip .0 .queue .waiting)
-  unfolding shownBy
+  unfolding controlShowsBy
   room = read-named 0x24 (record { block = Control; word = 9 }) named-room
 
   -- control word 10 shows the position: x in 11..0, y in 27..16
   pub position : (readBack chip 0x28 .1 ≡ ok (chip .0 .at .y * 2 ^ 16 + chip .0 .at .x))
       × (field (chip .0 .at .y * 2 ^ 16 + chip .0 .at .x) 11 0 ≡ chip .0 .at .x)
       × (field (chip .0 .at .y * 2 ^ 16 + chip .0 .at .x) 27 16 ≡ chip .0 .at .y)
-  unfolding shownBy
+  unfolding controlShowsBy
   position =
       let said = good-says (chip .0) good in
       (read-named 0x28 (record { block = Control; word = 10 }) named-position, omega (arith, said .1), omega (arith, said .1, said .2))

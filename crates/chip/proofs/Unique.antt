@@ -6,25 +6,24 @@ use Rattle.rules.specs.Rule.{Outcome, ok, refused}
 use Rattle.rules.specs.Faults.{Numbered}
 use Rattle.rules.specs.Unique.{OneAnswer, OneOutcome}
 use Rattle.rules.proofs.Unique.{by-equation, by-saying, by-outcome}
-use Rattle.refusals.proofs.Known.{refusalOf, known}
+use Rattle.refusals.specs.declared.Answer.{Answer}
+use Rattle.refusals.specs.Refusal.{answerOutcome}
+use Rattle.refusals.proofs.Known.{refusalOf, known, answerOf, answer-back}
 use Rattle.chip_timing.specs.declared.Signals.{Signals}
-use Rattle.chip.specs.Write as write-spec
 use Rattle.chip.specs.Read as read-spec
 use Rattle.chip.specs.Dot as dot-spec
 use Rattle.chip.specs.Dots as dots-spec
 use Rattle.chip.specs.declared.state.State.{State}
-use Rattle.chip.specs.declared.write.Answer.{Answer as WriteAnswer}
-use Rattle.chip.specs.declared.write.Answer.the-variants.{Done, Refused as WriteRefused}
 use Rattle.chip.specs.declared.write.Written.{Written}
-use Rattle.chip.specs.declared.read.Answer.{Answer as ReadAnswer}
-use Rattle.chip.specs.declared.read.Answer.the-variants.{Word, Refused as ReadRefused}
+use Rattle.chip.specs.declared.read.ReadAnswer.{ReadAnswer}
+use Rattle.chip.specs.declared.read.ReadAnswer.the-variants.{Word, Refused as ReadRefused}
 use Rattle.chip.specs.declared.read.ReadBack.{ReadBack}
-use Rattle.chip.specs.declared.dot.Answer.{Answer as DotAnswer}
-use Rattle.chip.specs.declared.dot.Answer.the-variants.{Reported as DotReported, Refused as DotRefused}
+use Rattle.chip.specs.declared.dot.DotAnswer.{DotAnswer}
+use Rattle.chip.specs.declared.dot.DotAnswer.the-variants.{Reported as DotReported, Refused as DotRefused}
 use Rattle.chip.specs.declared.dot.Dotted.{Dotted}
 use Rattle.chip.specs.declared.dots.Report.{Report}
-use Rattle.chip.specs.declared.dots.Answer.{Answer as DotsAnswer}
-use Rattle.chip.specs.declared.dots.Answer.the-variants.{Reported as DotsReported, Refused as DotsRefused}
+use Rattle.chip.specs.declared.dots.DotsAnswer.{DotsAnswer}
+use Rattle.chip.specs.declared.dots.DotsAnswer.the-variants.{Reported as DotsReported, Refused as DotsRefused}
 use Rattle.chip.specs.declared.dots.Ran.{Ran}
 use Rattle.chip.proofs.state.State.new.Reads as new
 use Rattle.chip.proofs.state.State.good.Reads as good
@@ -50,19 +49,11 @@ same-result {Said} {Answer} {Result} told answer-of back result state state′ a
 
 -- ---- write
 
-abbrev write-answer : Outcome Numbered (Unit {0}) → WriteAnswer
-write-answer (ok done) = Done
-write-answer (refused refusal) = WriteRefused (refusalOf refusal)
-
-write-back : (answer : WriteAnswer) → write-answer (write-spec.told answer) ≡ answer
-write-back Done = refl
-write-back (WriteRefused refusal) = ap WriteRefused (known refusal)
-
 pub write-unique : OneOutcome (λ k exit. now (exit .1 .0)) write.Post
 write-unique =
-    by-outcome (λ k (r : Written). r .state) (λ k (r : Written). write-spec.told (r .answer))
+    by-outcome (λ k (r : Written). r .state) (λ k (r : Written). answerOutcome (r .answer))
     (λ k (r : Written) (r′ : Written).
-    same-result write-spec.told write-answer write-back (λ (state : State) (answer : WriteAnswer). record { state = state; answer = answer })
+    same-result answerOutcome answerOf answer-back (λ (state : State) (answer : Answer). record { state = state; answer = answer })
     (r .state) (r′ .state) (r .answer) (r′ .answer))
     _ (λ k exit. now (exit .1 .0)) _
 
@@ -72,15 +63,15 @@ abbrev read-answer : Outcome Numbered ℕ → ReadAnswer
 read-answer (ok word) = Word word
 read-answer (refused refusal) = ReadRefused (refusalOf refusal)
 
-read-back : (answer : ReadAnswer) → read-answer (read-spec.told answer) ≡ answer
+read-back : (answer : ReadAnswer) → read-answer (read-spec.readOutcome answer) ≡ answer
 read-back (Word word) = refl
 read-back (ReadRefused refusal) = ap ReadRefused (known refusal)
 
 pub read-unique : OneAnswer read.Post
 read-unique =
-    by-saying (λ k (r : ReadBack). r .state) (λ k (r : ReadBack). read-spec.told (r .answer))
+    by-saying (λ k (r : ReadBack). r .state) (λ k (r : ReadBack). read-spec.readOutcome (r .answer))
     (λ k (r : ReadBack) (r′ : ReadBack).
-    same-result read-spec.told read-answer read-back (λ (state : State) (answer : ReadAnswer). record { state = state; answer = answer })
+    same-result read-spec.readOutcome read-answer read-back (λ (state : State) (answer : ReadAnswer). record { state = state; answer = answer })
     (r .state) (r′ .state) (r .answer) (r′ .answer))
     _ _ _
 
@@ -90,15 +81,15 @@ abbrev dot-answer : Outcome Numbered Signals → DotAnswer
 dot-answer (ok signals) = DotReported signals
 dot-answer (refused refusal) = DotRefused (refusalOf refusal)
 
-dot-back : (answer : DotAnswer) → dot-answer (dot-spec.told answer) ≡ answer
+dot-back : (answer : DotAnswer) → dot-answer (dot-spec.dotOutcome answer) ≡ answer
 dot-back (DotReported signals) = refl
 dot-back (DotRefused refusal) = ap DotRefused (known refusal)
 
 pub dot-unique : OneOutcome (λ k exit. now (exit .1 .0)) dot.Post
 dot-unique =
-    by-outcome (λ k (r : Dotted). r .state) (λ k (r : Dotted). dot-spec.told (r .answer))
+    by-outcome (λ k (r : Dotted). r .state) (λ k (r : Dotted). dot-spec.dotOutcome (r .answer))
     (λ k (r : Dotted) (r′ : Dotted).
-    same-result dot-spec.told dot-answer dot-back (λ (state : State) (answer : DotAnswer). record { state = state; answer = answer })
+    same-result dot-spec.dotOutcome dot-answer dot-back (λ (state : State) (answer : DotAnswer). record { state = state; answer = answer })
     (r .state) (r′ .state) (r .answer) (r′ .answer))
     _ (λ k exit. now (exit .1 .0)) _
 
@@ -108,14 +99,14 @@ abbrev dots-answer : Outcome Numbered Report → DotsAnswer
 dots-answer (ok report) = DotsReported report
 dots-answer (refused refusal) = DotsRefused (refusalOf refusal)
 
-dots-back : (answer : DotsAnswer) → dots-answer (dots-spec.told answer) ≡ answer
+dots-back : (answer : DotsAnswer) → dots-answer (dots-spec.dotsOutcome answer) ≡ answer
 dots-back (DotsReported report) = refl
 dots-back (DotsRefused refusal) = ap DotsRefused (known refusal)
 
 pub dots-unique : OneOutcome (λ k exit. now (exit .1 .0)) dots.Post
 dots-unique =
-    by-outcome (λ k (r : Ran). r .state) (λ k (r : Ran). dots-spec.told (r .answer))
+    by-outcome (λ k (r : Ran). r .state) (λ k (r : Ran). dots-spec.dotsOutcome (r .answer))
     (λ k (r : Ran) (r′ : Ran).
-    same-result dots-spec.told dots-answer dots-back (λ (state : State) (answer : DotsAnswer). record { state = state; answer = answer })
+    same-result dots-spec.dotsOutcome dots-answer dots-back (λ (state : State) (answer : DotsAnswer). record { state = state; answer = answer })
     (r .state) (r′ .state) (r .answer) (r′ .answer))
     _ (λ k exit. now (exit .1 .0)) _

@@ -8,9 +8,9 @@ use Rattle.rules.specs.Rule.{Outcome, ok, refused, andThen}
 use Rattle.rules.specs.Faults.{Numbered, Clear}
 use Rattle.rules.specs.Checked.{verdict}
 use Rattle.rules.proofs.Checked.{clear-verdict}
-use Rattle.refusals.specs.Refusal.{fitTold}
-use Rattle.refusals.specs.declared.Fit.{Fit}
-use Rattle.chip_registers.specs.Named.{placeOf, named}
+use Rattle.refusals.specs.Refusal.{answerOutcome}
+use Rattle.refusals.specs.declared.Answer.{Answer}
+use Rattle.chip_registers.specs.Named.{addressPlace, named}
 use Rattle.chip_registers.specs.Store.{storeLength}
 use Rattle.chip_registers.specs.Access.{readOnly}
 use Rattle.chip_registers.specs.declared.Register.{Register}
@@ -20,16 +20,16 @@ use Rattle.chip_queue.specs.Queue.{full}
 use Rattle.chip.specs.Call.{Chip, callFaults}
 use Rattle.chip.specs.Write.{registerFaults, addressFaults, writeFaults, put, putNamed, written}
 use Rattle.chip.specs.Inner.{writeTest}
-use Rattle.chip.proofs.Fit.{tested, first-then, passes, stops}
+use Rattle.chip.proofs.CallCheck.{tested, first-then, passes, stops}
 
 module _ (chip : Chip) (address value : ℕ) where
   -- the test of a write is the verdict on its faults
-  pub write-tested : (fit : Fit) (filled : Bool) → fitTold fit ≡ tested chip → filled ≡ full (chip .0 .queue)
-      → verdict (writeFaults chip address value) ≡ writeTest fit filled address value
-  write-tested fit filled e f =
+  pub write-tested : (allowed : Answer) (filled : Bool) → answerOutcome allowed ≡ tested chip → filled ≡ full (chip .0 .queue)
+      → verdict (writeFaults chip address value) ≡ writeTest allowed filled address value
+  write-tested allowed filled e f =
       first-then (callFaults (chip .0) (length (chip .1))) (addressFaults (full (chip .0 .queue)) address value)
       ∙ ap (λ (first : Outcome Numbered (Unit {0})). andThen first (λ passed. verdict (addressFaults (full (chip .0 .queue)) address value))) (sym e)
-      ∙ ap (λ (filled : Bool). writeTest fit filled address value) (sym f)
+      ∙ ap (λ (filled : Bool). writeTest allowed filled address value) (sym f)
 
   -- refused by 11, 5, 1, 2, 3 or 4
   pub write-refused : (refusal : Numbered) → verdict (writeFaults chip address value) ≡ refused refusal → written chip address value ≡ (chip, refused refusal)
@@ -46,5 +46,5 @@ module _ (chip : Chip) (address value : ℕ) where
     pub goes-says : (readOnly register ≡ false) × (length (chip .1) ≡ storeLength)
     goes-says =
         let clear = clear-verdict (writeFaults chip address value) fine in
-        let own : Clear (registerFaults (full (chip .0 .queue)) (Is register) (placeOf address) value) = rw there at (clear .1 .1) in
+        let own : Clear (registerFaults (full (chip .0 .queue)) (Is register) (addressPlace address) value) = rw there at (clear .1 .1) in
         (own .0, eqb-true _ _ (not-false _ (clear .1 .0)))

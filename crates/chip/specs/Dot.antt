@@ -13,13 +13,13 @@ use Rattle.chip_queue.specs.Queue.{oldest, popped}
 use Rattle.chip.specs.State.{controlWord, windowsOf, withPosition, withQueue}
 use Rattle.chip.specs.Call.{Chip, callFaults}
 use Rattle.chip.specs.declared.state.State.{State}
-use Rattle.chip.specs.declared.dot.Answer.{Answer}
-use Rattle.chip.specs.declared.dot.Answer.the-variants.{Reported, Refused}
+use Rattle.chip.specs.declared.dot.DotAnswer.{DotAnswer}
+use Rattle.chip.specs.declared.dot.DotAnswer.the-variants.{Reported, Refused}
 
 -- what the answer says: the signals, or a refusal's number and values
-abbrev pub told : Answer → Outcome Numbered Signals
-told (Reported signals) = ok signals
-told (Refused refusal) = refused (numbered refusal)
+abbrev pub dotOutcome : DotAnswer → Outcome Numbered Signals
+dotOutcome (Reported signals) = ok signals
+dotOutcome (Refused refusal) = refused (numbered refusal)
 
 -- the signals at the position
 abbrev pub signalsOf : State → Signals

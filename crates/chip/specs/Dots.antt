@@ -8,13 +8,13 @@ use Rattle.chip.specs.Call.{Chip, callFaults}
 use Rattle.chip.specs.Dot.{signalsOf, afterDot}
 use Rattle.chip.specs.declared.dots.Report.{Report}
 use Rattle.chip.specs.declared.dots.Report.the-variants.{Nothing, Last}
-use Rattle.chip.specs.declared.dots.Answer.{Answer}
-use Rattle.chip.specs.declared.dots.Answer.the-variants.{Reported, Refused}
+use Rattle.chip.specs.declared.dots.DotsAnswer.{DotsAnswer}
+use Rattle.chip.specs.declared.dots.DotsAnswer.the-variants.{Reported, Refused}
 
 -- what the answer says: what the last dot reported, or a refusal's number and values
-abbrev pub told : Answer → Outcome Numbered Report
-told (Reported report) = ok report
-told (Refused refusal) = refused (numbered refusal)
+abbrev pub dotsOutcome : DotsAnswer → Outcome Numbered Report
+dotsOutcome (Reported report) = ok report
+dotsOutcome (Refused refusal) = refused (numbered refusal)
 
 -- what so many dots leave
 unfoldable pub afterDots : ℕ → Chip → Chip

@@ -6,8 +6,8 @@ use lib.Dec.{eqb}
 use Rattle.rules.specs.Rule.{Outcome, ok, refused, andThen}
 use Rattle.rules.specs.Faults.{Numbered}
 use Rattle.rules.specs.Checked.{verdict}
-use Rattle.refusals.specs.Refusal.{numbered, fitTold}
-use Rattle.refusals.specs.declared.Fit.{Fit}
+use Rattle.refusals.specs.Refusal.{numbered, answerOutcome}
+use Rattle.refusals.specs.declared.Answer.{Answer}
 use Rattle.chip_timing.specs.Move.{positionAfter}
 use Rattle.chip_timing.specs.Walk.{walked}
 use Rattle.chip_timing.specs.declared.Walk.{Walk}
@@ -20,8 +20,8 @@ use Rattle.chip.specs.declared.write.Verdict.{Verdict}
 use Rattle.chip.specs.declared.write.Verdict.the-variants.{To, Refused}
 
 -- what a call's first test and then the other faults of a write come to, by whether the queue is full
-abbrev pub writeTest : Fit → Bool → ℕ → ℕ → Outcome Numbered (Unit {0})
-writeTest fit full address value = andThen (fitTold fit) (λ passed. verdict (addressFaults full address value))
+abbrev pub writeTest : Answer → Bool → ℕ → ℕ → Outcome Numbered (Unit {0})
+writeTest allowed full address value = andThen (answerOutcome allowed) (λ passed. verdict (addressFaults full address value))
 
 -- what becomes of a write by that: it goes to the register that its address names, or is refused so
 abbrev pub Judged : Outcome Numbered (Unit {0}) → Named → Verdict → Type 0

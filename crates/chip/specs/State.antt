@@ -9,18 +9,18 @@ use Rattle.chip_timing.specs.declared.Position.{Position}
 use Rattle.chip_timing.specs.declared.Windows.{Windows}
 use Rattle.chip_registers.specs.Kept.{fits}
 use Rattle.chip_registers.specs.declared.Block.the-variants.{Control}
-use Rattle.chip_queue.specs.Queue.{Sized, empty}
+use Rattle.chip_queue.specs.Queue.{HasSlots, emptyQueue}
 use Rattle.chip_queue.specs.Good.{goodQueue}
 use Rattle.chip_queue.specs.declared.Queue.{Queue}
 use Rattle.chip.specs.declared.state.State.{State}
 
 -- there are 9 control words and 64 slots: the arrays of the code have them, where a definition sees lists
-abbrev pub Whole : State → Type 0
-Whole state = (length (state .control) ≡ 9) × Sized (state .queue)
+abbrev pub HasArrays : State → Type 0
+HasArrays state = (length (state .control) ≡ 9) × HasSlots (state .queue)
 
 -- all zero, its queue empty
 abbrev pub fresh : State
-fresh = record { control = replicate 9 0; at = record { x = 0; y = 0 }; queue = empty }
+fresh = record { control = replicate 9 0; at = record { x = 0; y = 0 }; queue = emptyQueue }
 
 -- a control word
 abbrev pub controlWord : State → ℕ → ℕ

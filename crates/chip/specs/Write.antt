@@ -7,7 +7,7 @@ use Rattle.rules.specs.Rule.{Outcome, ok, refused}
 use Rattle.rules.specs.Faults.{Numbered, Fault, unless}
 use Rattle.refusals.specs.Refusal.{numbered, fault}
 use Rattle.refusals.specs.declared.Refusal.the-variants.{NoRegister, ReadOnly, StrayBits, QueueFull}
-use Rattle.chip_registers.specs.Named.{placeOf, named}
+use Rattle.chip_registers.specs.Named.{addressPlace, named}
 use Rattle.chip_registers.specs.Kept.{fits}
 use Rattle.chip_registers.specs.Store.{storeIndex}
 use Rattle.chip_registers.specs.Access.{readOnly, waits}
@@ -20,13 +20,6 @@ use Rattle.chip_queue.specs.Queue.{full, pushed}
 use Rattle.chip_queue.specs.Waiting.{writeTo}
 use Rattle.chip.specs.State.{withWord, withQueue}
 use Rattle.chip.specs.Call.{Chip, callFaults}
-use Rattle.chip.specs.declared.write.Answer.{Answer}
-use Rattle.chip.specs.declared.write.Answer.the-variants.{Done, Refused}
-
--- what the answer says: done, or a refusal's number and values
-abbrev pub told : Answer → Outcome Numbered (Unit {0})
-told Done = ok tt
-told (Refused refusal) = refused (numbered refusal)
 
 -- why a write is refused, by what its address names and whether the queue is full: 1 where it names nothing, else 2, 3, 4, all at the address
 abbrev pub registerFaults : Bool → Named → ℕ → ℕ → List Fault
@@ -39,7 +32,7 @@ registerFaults full (Is register) place value =
 
 -- so of an address
 abbrev pub addressFaults : Bool → ℕ → ℕ → List Fault
-addressFaults full address value = registerFaults full (named address) (placeOf address) value
+addressFaults full address value = registerFaults full (named address) (addressPlace address) value
 
 -- 11, 5, 1, 2, 3, 4
 abbrev pub writeFaults : Chip → ℕ → ℕ → List Fault

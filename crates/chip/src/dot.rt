@@ -6,14 +6,14 @@ ghost use lib.Dec.{ltb};
 ghost use lib.ListN.{length};
 ghost use Rattle.chip_registers.specs.Store.{storeLength};
 ghost use Rattle.chip.specs.State.{goodState};
-ghost use Rattle.chip.specs.Dot.{told, signalsOf, oldestApplied, moved, afterDot, dotted};
+ghost use Rattle.chip.specs.Dot.{dotOutcome, signalsOf, oldestApplied, moved, afterDot, dotted};
 use crate::state::State;
-use refusals::Fit;
-use refusals::Refusal;
 use chip_timing::Signals;
+use refusals::Answer;
+use refusals::Refusal;
 
 // What a dot answers.
-pub enum Answer {
+pub enum DotAnswer {
     Reported(Signals),
     Refused(Refusal),
 }
@@ -21,7 +21,7 @@ pub enum Answer {
 // The state that a dot hands back, and its answer.
 pub struct Dotted {
     pub state: State,
-    pub answer: Answer,
+    pub answer: DotAnswer,
 }
 
 // Whether a dot applies a write: it is blanked and something waits.
@@ -75,19 +75,19 @@ impl State {
 
     // One dot.
     pub fn dot(self, store: &mut [u32]) -> Dotted
-        ensures { λ r. ⌜ ((r .state, now (store .exit)), told (r .answer)) ≡ dotted (self, now (store .entry)) ⌝ }
+        ensures { λ r. ⌜ ((r .state, now (store .exit)), dotOutcome (r .answer)) ≡ dotted (self, now (store .entry)) ⌝ }
     {
-        let fit = self.fit(store.len());
-        if let Fit::Refused(refusal) = fit {
+        let allowed = self.call_check(store.len());
+        if let Answer::Refused(refusal) = allowed {
             return Dotted {
                 state: self,
-                answer: Answer::Refused(refusal),
+                answer: DotAnswer::Refused(refusal),
             };
         }
         let signals = self.signals();
         Dotted {
             state: self.step(store, signals.blank),
-            answer: Answer::Reported(signals),
+            answer: DotAnswer::Reported(signals),
         }
     }
 }

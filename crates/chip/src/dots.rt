@@ -4,14 +4,14 @@ ghost use mathlib.Core.Bool.{true};
 ghost use lib.ListN.{length};
 ghost use Rattle.chip_registers.specs.Store.{storeLength};
 ghost use Rattle.chip.specs.State.{goodState, withPosition};
-ghost use Rattle.chip.specs.Dots.{told, afterDots, ran};
+ghost use Rattle.chip.specs.Dots.{dotsOutcome, afterDots, ran};
 ghost use Rattle.chip.specs.Inner.{walk};
 use crate::state::State;
-use refusals::Fit;
-use refusals::Refusal;
 use chip_timing::Position;
 use chip_timing::Signals;
 use chip_timing::Walk;
+use refusals::Answer;
+use refusals::Refusal;
 
 // What the last of some dots reported; none where there was no dot.
 pub enum Report {
@@ -20,7 +20,7 @@ pub enum Report {
 }
 
 // What a run of dots answers.
-pub enum Answer {
+pub enum DotsAnswer {
     Reported(Report),
     Refused(Refusal),
 }
@@ -28,7 +28,7 @@ pub enum Answer {
 // The state that a run of dots hands back, and its answer.
 pub struct Ran {
     pub state: State,
-    pub answer: Answer,
+    pub answer: DotsAnswer,
 }
 
 impl State {
@@ -76,26 +76,26 @@ impl State {
 
     // So many dots.
     pub fn dots(self, store: &mut [u32], count: u32) -> Ran
-        ensures { λ r. ⌜ ((r .state, now (store .exit)), told (r .answer)) ≡ ran (self, now (store .entry)) count ⌝ }
+        ensures { λ r. ⌜ ((r .state, now (store .exit)), dotsOutcome (r .answer)) ≡ ran (self, now (store .entry)) count ⌝ }
     {
-        let fit = self.fit(store.len());
-        if let Fit::Refused(refusal) = fit {
+        let allowed = self.call_check(store.len());
+        if let Answer::Refused(refusal) = allowed {
             return Ran {
                 state: self,
-                answer: Answer::Refused(refusal),
+                answer: DotsAnswer::Refused(refusal),
             };
         }
         if count == 0 {
             return Ran {
                 state: self,
-                answer: Answer::Reported(Report::Nothing),
+                answer: DotsAnswer::Reported(Report::Nothing),
             };
         }
         let before = self.steps(store, count - 1);
         let signals = before.signals();
         Ran {
             state: before.step(store, signals.blank),
-            answer: Answer::Reported(Report::Last(signals)),
+            answer: DotsAnswer::Reported(Report::Last(signals)),
         }
     }
 }

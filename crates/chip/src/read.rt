@@ -6,17 +6,17 @@ ghost use lib.ListN.{length};
 ghost use Rattle.chip_registers.specs.Blocks.{count};
 ghost use Rattle.chip_registers.specs.Store.{storeLength};
 ghost use Rattle.chip.specs.State.{goodState};
-ghost use Rattle.chip.specs.Read.{shownBy, shownOfControl, shown, told, readBack};
+ghost use Rattle.chip.specs.Read.{controlShowsBy, controlShows, registerShows, readOutcome, readBack};
 use crate::state::State;
-use refusals::Fit;
-use refusals::Refusal;
 use chip_registers::Block;
 use chip_registers::Named;
 use chip_registers::Register;
 use chip_timing::Position;
+use refusals::Answer;
+use refusals::Refusal;
 
 // What a read answers.
-pub enum Answer {
+pub enum ReadAnswer {
     Word(u32),
     Refused(Refusal),
 }
@@ -24,13 +24,13 @@ pub enum Answer {
 // The state that a read hands back, and its answer.
 pub struct ReadBack {
     pub state: State,
-    pub answer: Answer,
+    pub answer: ReadAnswer,
 }
 
 // What a control word shows, by the words that are stored, the room in the queue and the position.
 fn shown_by(control: [u32; 9], room: u32, at: Position, word: u32) -> u32
     requires { ⌜ (at .x ≤ 4095) × (at .y ≤ 4095) × (word < 11) ⌝ }
-    ensures { λ r. ⌜ r ≡ shownBy control room at word ⌝ }
+    ensures { λ r. ⌜ r ≡ controlShowsBy control room at word ⌝ }
 {
     if word == 9 {
         return room;
@@ -46,7 +46,7 @@ impl State {
     // What a control word shows.
     fn shown_of_control(self, word: u32) -> u32
         requires { ⌜ (goodState self ≡ true) × (word < 11) ⌝ }
-        ensures { λ r. ⌜ r ≡ shownOfControl self word ⌝ }
+        ensures { λ r. ⌜ r ≡ controlShows self word ⌝ }
     {
         let control = self.control;
         let queue = self.queue;
@@ -56,7 +56,7 @@ impl State {
     // What a register shows.
     fn shown(self, store: &[u32], register: Register) -> u32
         requires { ⌜ (goodState self ≡ true) × (register .word < count (register .block)) × (length (now store) ≡ storeLength) ⌝ }
-        ensures { λ r. ⌜ r ≡ shown (self, now (store .entry)) register ⌝ }
+        ensures { λ r. ⌜ r ≡ registerShows (self, now (store .entry)) register ⌝ }
     {
         let block = register.block;
         match block {
@@ -69,23 +69,23 @@ impl State {
     }
 
     // What a read answers.
-    fn read_answer(self, store: &[u32], address: u32) -> Answer
-        ensures { λ r. ⌜ ((self, now (store .entry)), told r) ≡ readBack (self, now (store .entry)) address ⌝ }
+    fn read_answer(self, store: &[u32], address: u32) -> ReadAnswer
+        ensures { λ r. ⌜ ((self, now (store .entry)), readOutcome r) ≡ readBack (self, now (store .entry)) address ⌝ }
     {
-        let fit = self.fit(store.len());
-        if let Fit::Refused(refusal) = fit {
-            return Answer::Refused(refusal);
+        let allowed = self.call_check(store.len());
+        if let Answer::Refused(refusal) = allowed {
+            return ReadAnswer::Refused(refusal);
         }
         let named = Register::at(address);
         let Named::Is(register) = named else {
-            return Answer::Refused(Refusal::NoRegister(chip_registers::place(address)));
+            return ReadAnswer::Refused(Refusal::NoRegister(chip_registers::place(address)));
         };
-        Answer::Word(self.shown(store, register))
+        ReadAnswer::Word(self.shown(store, register))
     }
 
     // One register read.
     pub fn read(self, store: &[u32], address: u32) -> ReadBack
-        ensures { λ r. ⌜ ((r .state, now (store .entry)), told (r .answer)) ≡ readBack (self, now (store .entry)) address ⌝ }
+        ensures { λ r. ⌜ ((r .state, now (store .entry)), readOutcome (r .answer)) ≡ readBack (self, now (store .entry)) address ⌝ }
     {
         ReadBack {
             state: self,

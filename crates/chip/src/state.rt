@@ -1,16 +1,16 @@
 // The state: control words, position and queue, passed by value.
 ghost use mathlib.Core.Path.{_≡_};
 ghost use Rattle.rules.specs.Checked.{verdict};
-ghost use Rattle.refusals.specs.Refusal.{fitTold};
+ghost use Rattle.refusals.specs.Refusal.{answerOutcome};
 ghost use Rattle.chip.specs.State.{fresh, goodWords, goodState, windowsOf};
 ghost use Rattle.chip.specs.Call.{callFaults};
 use chip_queue::Queue;
-use refusals::Fit;
-use refusals::Refusal;
 use chip_registers::Block;
 use chip_registers::Register;
 use chip_timing::Position;
 use chip_timing::Windows;
+use refusals::Answer;
+use refusals::Refusal;
 
 // All that the chip holds besides the store.
 #[repr(C)]
@@ -74,16 +74,16 @@ impl State {
     }
 
     // Whether a call may go on with this state and a store of so many words.
-    pub(crate) fn fit(self, length: usize) -> Fit
-        ensures { λ r. ⌜ fitTold r ≡ verdict (callFaults self length) ⌝ }
+    pub(crate) fn call_check(self, words: usize) -> Answer
+        ensures { λ r. ⌜ answerOutcome r ≡ verdict (callFaults self words) ⌝ }
     {
         if !self.good() {
-            return Fit::Refused(Refusal::BadState);
+            return Answer::Refused(Refusal::BadState);
         }
-        if length != 4963 {
-            return Fit::Refused(Refusal::StoreLength);
+        if words != 4963 {
+            return Answer::Refused(Refusal::StoreLength);
         }
-        Fit::Yes
+        Answer::Done
     }
 
     // Control words 2 to 5.

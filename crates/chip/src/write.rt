@@ -3,27 +3,22 @@ ghost use Prim.Native.Nat.{_<_};
 ghost use mathlib.Core.Path.{_≡_};
 ghost use mathlib.Core.Bool.{false};
 ghost use lib.ListN.{length};
+ghost use Rattle.refusals.specs.Refusal.{answerOutcome};
 ghost use Rattle.chip_registers.specs.Blocks.{count};
 ghost use Rattle.chip_registers.specs.Named.{named};
 ghost use Rattle.chip_registers.specs.Store.{storeLength};
 ghost use Rattle.chip_registers.specs.Access.{readOnly};
 ghost use Rattle.chip_queue.specs.Queue.{pushed};
 ghost use Rattle.chip.specs.State.{withWord, withQueue};
-ghost use Rattle.chip.specs.Write.{put, told, written};
+ghost use Rattle.chip.specs.Write.{put, written};
 ghost use Rattle.chip.specs.Inner.{writeTest, Judged};
 use crate::state::State;
 use chip_queue::Waiting;
-use refusals::Fit;
-use refusals::Refusal;
 use chip_registers::Block;
 use chip_registers::Named;
 use chip_registers::Register;
-
-// What a write answers.
-pub enum Answer {
-    Done,
-    Refused(Refusal),
-}
+use refusals::Answer;
+use refusals::Refusal;
 
 // The state that a write hands back, and its answer.
 pub struct Written {
@@ -38,10 +33,10 @@ enum Verdict {
 }
 
 // What becomes of a write, by whether the call may go on, by its address and value and by whether the queue is full.
-fn judged(fit: Fit, address: u32, value: u32, full: bool) -> Verdict
-    ensures { λ r. ⌜ Judged (writeTest fit full address value) (named address) r ⌝ }
+fn judged(allowed: Answer, address: u32, value: u32, full: bool) -> Verdict
+    ensures { λ r. ⌜ Judged (writeTest allowed full address value) (named address) r ⌝ }
 {
-    if let Fit::Refused(refusal) = fit {
+    if let Answer::Refused(refusal) = allowed {
         return Verdict::Refused(refusal);
     }
     let place = chip_registers::place(address);
@@ -106,10 +101,10 @@ impl State {
 
     // One register write.
     pub fn write(self, store: &mut [u32], address: u32, value: u32) -> Written
-        ensures { λ r. ⌜ ((r .state, now (store .exit)), told (r .answer)) ≡ written (self, now (store .entry)) address value ⌝ }
+        ensures { λ r. ⌜ ((r .state, now (store .exit)), answerOutcome (r .answer)) ≡ written (self, now (store .entry)) address value ⌝ }
     {
         let queue = self.queue;
-        let verdict = judged(self.fit(store.len()), address, value, queue.full());
+        let verdict = judged(self.call_check(store.len()), address, value, queue.full());
         match verdict {
             Verdict::To(register) => Written {
                 state: self.put(store, register, value),

@@ -18,12 +18,12 @@ use Rattle.chip_registers.proofs.Store.{map-entry-apart}
 use Rattle.chip_queue.specs.Queue.{oldest}
 use Rattle.chip_queue.specs.Waiting.{target}
 use Rattle.chip_queue.specs.declared.Waiting.{Waiting}
-use Rattle.chip.specs.State.{fresh, Whole}
+use Rattle.chip.specs.State.{fresh, HasArrays}
 use Rattle.chip.specs.Call.{Chip}
 use Rattle.chip.specs.Write.{putIn}
 use Rattle.chip.specs.Dot.{signalsOf, drains, oldestApplied, afterDot}
 use Rattle.chip.proofs.Good.{fresh-whole}
-use Rattle.chip.proofs.Fit.{fit-says}
+use Rattle.chip.proofs.CallCheck.{allowed-says}
 use Rattle.chip_history.specs.Calls.{Call, end}
 use Rattle.chip_history.specs.Ledger.{front, applied, latest}
 use Rattle.chip_history.proofs.Calls.{Law, law-calls}
@@ -106,11 +106,11 @@ module _ (entry : ℕ) where
           then = λ first middle last dark dark′ took took′ p q.
               q ∙ ap (latest entry (joined dark′)) p ∙ sym (rw (joined-then dark dark′) (latest-then (joined dark) (joined dark′) (held-in (first .1))));
           puts = λ chip address value register whole p. put-holds chip (register .block) (register .word) value (p .here);
-          step = λ chip whole on. step-holds chip (signalsOf (chip .0) .blank) (fit-says (chip .0) (length (chip .1)) on .1);
+          step = λ chip whole on. step-holds chip (signalsOf (chip .0) .blank) (allowed-says (chip .0) (length (chip .1)) on .1);
         }
 
     -- after any calls a map entry holds the colour of the last write applied to it, or what it held before
-    pub map-entry : (chip : Chip) (calls : List Call) → Whole (chip .0)
+    pub map-entry : (chip : Chip) (calls : List Call) → HasArrays (chip .0)
         → getD (end chip calls .1) (storeStart ColourMap + entry) 0 ≡ latest entry (applied chip calls) (getD (chip .1) (storeStart ColourMap + entry) 0)
     map-entry = law-calls Held holds
 

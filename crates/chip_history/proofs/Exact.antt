@@ -10,10 +10,10 @@ use Rattle.chip_queue.specs.Waiting.{target}
 use Rattle.chip_queue.specs.declared.Waiting.{Waiting}
 use Rattle.chip_queue.proofs.Rule as rule
 use Rattle.chip_queue.proofs.Rule.{good-each, write-says}
-use Rattle.chip.specs.State.{fresh, goodState, Whole}
+use Rattle.chip.specs.State.{fresh, goodState, HasArrays}
 use Rattle.chip.specs.Call.{Chip}
 use Rattle.chip.proofs.Good.{good-says, fresh-whole, fresh-good}
-use Rattle.chip_history.specs.Calls.{Call, write, after, end}
+use Rattle.chip_history.specs.Calls.{Call, write, leftBy, end}
 use Rattle.chip_history.specs.Ledger.{accepts, accepted, blanks, blanked}
 use Rattle.chip_history.proofs.Calls.{stays-whole}
 use Rattle.chip_history.proofs.Stays.{stays-good}
@@ -21,7 +21,7 @@ use Rattle.chip_history.proofs.Acts.{acts-waits, acts-exact}
 use Rattle.chip_history.proofs.Ledger.{calls-act, ledger-from, few-wait, waiting-count}
 use Rattle.chip_history.proofs.Entries.{latest-last, map-entry}
 
-module _ (chip : Chip) (calls : List Call) (whole : Whole (chip .0)) (good : goodState (chip .0) ≡ true) (k : ℕ) (waits : k < chip .0 .queue .waiting) where
+module _ (chip : Chip) (calls : List Call) (whole : HasArrays (chip .0)) (good : goodState (chip .0) ≡ true) (k : ℕ) (waits : k < chip .0 .queue .waiting) where
   -- it stands in the list of those that wait
   stands : k < length (waitingIn (chip .0 .queue))
   unfolding end
@@ -59,8 +59,8 @@ fresh-within-64 store before calls k waits =
     within-64 (end (fresh, store) before) calls (stays-whole (fresh, store) before fresh-whole) (stays-good (fresh, store) before fresh-whole fresh-good) k waits
 
 -- an accepted colour write stands behind all that waited, so with n waiting it is the one with n before it
-pub accepted-stands : (chip : Chip) (address value : ℕ) (taken : Waiting) → Whole (chip .0) → accepts chip (write address value) ≡ taken ∷ []
-    → waitingIn (after chip (write address value) .0 .queue) ≡ waitingIn (chip .0 .queue) ++ (taken ∷ [])
+pub accepted-stands : (chip : Chip) (address value : ℕ) (taken : Waiting) → HasArrays (chip .0) → accepts chip (write address value) ≡ taken ∷ []
+    → waitingIn (leftBy chip (write address value) .0 .queue) ≡ waitingIn (chip .0 .queue) ++ (taken ∷ [])
 unfolding end accepted blanks blanked
 accepted-stands chip address value taken whole is =
     sym (ap (λ (writes : List Waiting). waitingIn (chip .0 .queue) ++ writes) (sym (append-nil _ ∙ is)) ∙ ledger-from chip (write address value ∷ []) whole)

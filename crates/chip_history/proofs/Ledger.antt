@@ -13,17 +13,17 @@ use Rattle.chip_registers.specs.Access.{waitsIn}
 use Rattle.chip_registers.specs.declared.Block.{Block}
 use Rattle.chip_registers.specs.declared.Block.the-variants.{Control, WindowEntries, ColourMap, GammaMap, CursorGlyph, CursorColours}
 use Rattle.chip_registers.specs.declared.Named.the-variants.{Is}
-use Rattle.chip_queue.specs.Queue.{waitingIn, full, oldest, Sized}
+use Rattle.chip_queue.specs.Queue.{waitingIn, full, oldest, HasSlots}
 use Rattle.chip_queue.specs.declared.Waiting.{Waiting}
 use Rattle.chip_queue.specs.declared.Queue.{Queue}
 use Rattle.chip_queue.proofs.Order.{waiting-pushed, waiting-popped, waiting-front, length-waiting}
 use Rattle.chip_queue.proofs.Rule as rule
-use Rattle.chip.specs.State.{fresh, goodState, Whole}
+use Rattle.chip.specs.State.{fresh, goodState, HasArrays}
 use Rattle.chip.specs.Call.{Chip}
 use Rattle.chip.specs.Write.{putIn}
 use Rattle.chip.specs.Dot.{signalsOf, drains, oldestApplied, afterDot}
 use Rattle.chip.proofs.Good.{good-says, not-full, fresh-whole, fresh-good}
-use Rattle.chip.proofs.Fit.{fit-says}
+use Rattle.chip.proofs.CallCheck.{allowed-says}
 use Rattle.chip_history.specs.Calls.{Call, end}
 use Rattle.chip_history.specs.Ledger.{colourWrite, accepted, front, blankedBy, blanked, applied, met}
 use Rattle.chip_history.proofs.Calls.{Law, law-calls, stays-whole}
@@ -33,7 +33,7 @@ use Rattle.chip_history.proofs.Acts.{Acts, still, joins, leaves, finds-
 -- ---- one write and one dot
 
 -- a colour write joins the queue, and any other leaves it
-put-acts : (chip : Chip) (block : Block) (word value : ℕ) → Sized (chip .0 .queue) → (waitsIn block && full (chip .0 .queue)) ≡ false
+put-acts : (chip : Chip) (block : Block) (word value : ℕ) → HasSlots (chip .0 .queue) → (waitsIn block && full (chip .0 .queue)) ≡ false
     → Acts (waitingIn (chip .0 .queue)) [] (colourWrite (Is (record { block = block; word = word })) value)
     (waitingIn (putIn chip block (record { block = block; word = word }) value .0 .queue))
 put-acts chip Control word value sized free = still
@@ -46,7 +46,7 @@ put-acts chip CursorGlyph word value sized free = still
 put-acts chip CursorColours word value sized free = still
 
 -- a blanked dot takes the oldest write, if something waits; any other leaves the queue
-step-acts : (chip : Chip) → Sized (chip .0 .queue) → chip .0 .queue .waiting ≤ 64 → (blank : Bool)
+step-acts : (chip : Chip) → HasSlots (chip .0 .queue) → chip .0 .queue .waiting ≤ 64 → (blank : Bool)
     → let queue = chip .0 .queue in
     Acts (waitingIn queue) (cond blank (front queue ∷ []) []) [] (waitingIn (cond (blank && ltb 0 (queue .waiting)) (oldestApplied chip) chip .0 .queue))
 step-acts chip sized few false = still
@@ -86,10 +86,10 @@ queued =
       then = λ first middle last dark dark′ took took′ p q. acts-then p q;
       puts = λ chip address value register whole p. put-acts chip (register .block) (register .word) value (whole .1) (p .free);
       step = λ chip whole on.
-          step-acts chip (whole .1) (rule.good-says (chip .0 .queue) (good-says (chip .0) (fit-says (chip .0) (length (chip .1)) on .0) .3) .0) (signalsOf (chip .0) .blank);
+          step-acts chip (whole .1) (rule.good-says (chip .0 .queue) (good-says (chip .0) (allowed-says (chip .0) (length (chip .1)) on .0) .3) .0) (signalsOf (chip .0) .blank);
     }
 
-module _ (chip : Chip) (calls : List Call) (whole : Whole (chip .0)) where
+module _ (chip : Chip) (calls : List Call) (whole : HasArrays (chip .0)) where
   -- what some calls do to the queue as a list
   pub calls-act : Acts (waitingIn (chip .0 .queue)) (blanked chip calls) (accepted chip calls) (waitingIn (end chip calls .0 .queue))
   calls-act = law-calls Queued queued chip calls whole

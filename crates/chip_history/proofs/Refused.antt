@@ -8,35 +8,35 @@ use lib.ListN.{length}
 use Rattle.rules.specs.Rule.{refused}
 use Rattle.rules.specs.Faults.{Numbered, Fault, First, unless}
 use Rattle.rules.proofs.Faults.{first-holds, refused-first}
-use Rattle.chip_registers.specs.Named.{placeOf, named}
+use Rattle.chip_registers.specs.Named.{addressPlace, named}
 use Rattle.chip_registers.specs.declared.Named.{Named}
 use Rattle.chip_registers.specs.declared.Named.the-variants.{Is, Nothing}
 use Rattle.chip_queue.specs.Queue.{full}
 use Rattle.chip.specs.State.{goodState}
 use Rattle.chip.specs.Call.{Chip, callFaults}
 use Rattle.chip.specs.Write.{registerFaults, addressFaults, writeFaults, putNamed, written}
-use Rattle.chip.specs.Read.{shownNamed, nameFaults, readFaults, readBack}
+use Rattle.chip.specs.Read.{addressShows, nameFaults, readFaults, readBack}
 use Rattle.chip.specs.Dot.{signalsOf, afterDot, dotted}
 use Rattle.chip.specs.Dots.{afterDots, lastReport, ran}
-use Rattle.chip_history.specs.Calls.{Call, write, read, dot, dots, line, after, faultsOf, RefusedBy}
+use Rattle.chip_history.specs.Calls.{Call, write, read, dot, dots, line, leftBy, faultsOf, RefusedBy}
 
 -- a call is refused exactly by the first of its faults that holds
 pub refused-exactly : (chip : Chip) (call : Call) (refusal : Numbered) → RefusedBy chip call refusal → First (faultsOf chip call) refusal
 unfolding written readBack dotted ran
 refused-exactly chip (write address value) refusal e = refused-first chip (putNamed chip (named address) value, tt) (writeFaults chip address value) refusal e
-refused-exactly chip (read address) refusal e = refused-first chip (chip, shownNamed chip (named address)) (readFaults chip address) refusal e
+refused-exactly chip (read address) refusal e = refused-first chip (chip, addressShows chip (named address)) (readFaults chip address) refusal e
 refused-exactly chip dot refusal e = refused-first chip (afterDot chip, signalsOf (chip .0)) (callFaults (chip .0) (length (chip .1))) refusal e
 refused-exactly chip (dots count) refusal e = refused-first chip (afterDots count chip, lastReport count chip) (callFaults (chip .0) (length (chip .1))) refusal e
 refused-exactly chip line refusal e = absurd e
 
 -- and by that one it is refused, all left as it was
 pub exactly-refused : (chip : Chip) (call : Call) (refusal : Numbered) → (call ≡ line → ⊥) → First (faultsOf chip call) refusal
-    → RefusedBy chip call refusal × (after chip call ≡ chip)
-unfolding after written readBack dotted ran
+    → RefusedBy chip call refusal × (leftBy chip call ≡ chip)
+unfolding leftBy written readBack dotted ran
 exactly-refused chip (write address value) refusal real f =
     let e = first-holds chip (putNamed chip (named address) value, tt) (writeFaults chip address value) refusal f in (ap (λ all. all .1) e, ap (λ all. all .0) e)
 exactly-refused chip (read address) refusal real f =
-    let e = first-holds chip (chip, shownNamed chip (named address)) (readFaults chip address) refusal f in (ap (λ all. all .1) e, ap (λ all. all .0) e)
+    let e = first-holds chip (chip, addressShows chip (named address)) (readFaults chip address) refusal f in (ap (λ all. all .1) e, ap (λ all. all .0) e)
 exactly-refused chip dot refusal real f =
     let e = first-holds chip (afterDot chip, signalsOf (chip .0)) (callFaults (chip .0) (length (chip .1))) refusal f in (ap (λ all. all .1) e, ap (λ all. all .0) e)
 exactly-refused chip (dots count) refusal real f =
@@ -44,7 +44,7 @@ exactly-refused chip (dots count) refusal real f =
 exactly-refused chip line refusal real f = absurd (real refl)
 
 -- so a refused call leaves all as it was
-pub refused-same : (chip : Chip) (call : Call) (refusal : Numbered) → RefusedBy chip call refusal → after chip call ≡ chip
+pub refused-same : (chip : Chip) (call : Call) (refusal : Numbered) → RefusedBy chip call refusal → leftBy chip call ≡ chip
 refused-same chip call refusal e = exactly-refused chip call refusal (real call e) (refused-exactly chip call refusal e) .1
   where
     real : (call : Call) → RefusedBy chip call refusal → call ≡ line → ⊥
@@ -63,7 +63,7 @@ unless-same before answer (fault ∷ faults) = by (fault .holds) (unless-same be
 -- a read leaves all as it was, refused or not
 pub read-same : (chip : Chip) (address : ℕ) → readBack chip address .0 ≡ chip
 unfolding readBack
-read-same chip address = unless-same chip (shownNamed chip (named address)) (readFaults chip address)
+read-same chip address = unless-same chip (addressShows chip (named address)) (readFaults chip address)
 
 -- none of some faults that holds has this number
 abbrev Avoids : ℕ → List Fault → Type 0
@@ -104,11 +104,11 @@ module _ (chip : Chip) (good : goodState (chip .0) ≡ true) where
   unfolding written readBack dotted ran
   good-not-11 (write address value) refusal e =
       avoids-all chip (putNamed chip (named address) value, tt) (writeFaults chip address value) 11
-      (avoids-11 (addressFaults (full (chip .0 .queue)) address value) (write-avoids (named address) (placeOf address) value))
+      (avoids-11 (addressFaults (full (chip .0 .queue)) address value) (write-avoids (named address) (addressPlace address) value))
       refusal e
   good-not-11 (read address) refusal e =
-      avoids-all chip (chip, shownNamed chip (named address)) (readFaults chip address) 11
-      (avoids-11 (nameFaults (named address) (placeOf address)) (read-avoids (named address) (placeOf address)))
+      avoids-all chip (chip, addressShows chip (named address)) (readFaults chip address) 11
+      (avoids-11 (nameFaults (named address) (addressPlace address)) (read-avoids (named address) (addressPlace address)))
       refusal e
   good-not-11 dot refusal e =
       avoids-all chip (afterDot chip, signalsOf (chip .0)) (callFaults (chip .0) (length (chip .1))) 11 (avoids-11 [] tt) refusal e

@@ -7,10 +7,10 @@ use lib.ListN.{length}
 use Rattle.rules.specs.Faults.{Numbered}
 use Rattle.chip_registers.specs.Store.{storeLength}
 use Rattle.chip_queue.specs.declared.Waiting.{Waiting}
-use Rattle.chip.specs.State.{fresh, goodState, Whole}
+use Rattle.chip.specs.State.{fresh, goodState, HasArrays}
 use Rattle.chip.specs.Call.{Chip}
 use Rattle.chip.proofs.Good.{fresh-whole, fresh-good, put-length, put-good, dot-length, dot-good}
-use Rattle.chip.proofs.Fit.{GoesOn, fit-says}
+use Rattle.chip.proofs.CallCheck.{GoesOn, allowed-says}
 use Rattle.chip_history.specs.Calls.{Call, RefusedBy, end}
 use Rattle.chip_history.specs.Ledger.{accepted, blanked, applied}
 use Rattle.chip_history.proofs.Refused.{good-not-11}
@@ -33,7 +33,7 @@ same-length =
     }
 
 -- every sequence leaves as many words in the store
-pub stays-length : (chip : Chip) (calls : List Call) → Whole (chip .0) → length (end chip calls .1) ≡ length (chip .1)
+pub stays-length : (chip : Chip) (calls : List Call) → HasArrays (chip .0) → length (end chip calls .1) ≡ length (chip .1)
 stays-length = law-calls SameLength same-length
 
 -- ---- the state's rule
@@ -53,7 +53,7 @@ still-good =
     }
 
 -- every sequence keeps the rule
-pub stays-good : (chip : Chip) (calls : List Call) → Whole (chip .0) → goodState (chip .0) ≡ true → goodState (end chip calls .0) ≡ true
+pub stays-good : (chip : Chip) (calls : List Call) → HasArrays (chip .0) → goodState (chip .0) ≡ true → goodState (end chip calls .0) ≡ true
 stays-good = law-calls StillGood still-good
 
 -- after any calls from a fresh state, none is refused by 11
@@ -80,8 +80,8 @@ idle =
     }
 
 -- with a store of another length nothing is accepted, nothing applied, and all stays as it was
-pub wrong-store : (chip : Chip) (calls : List Call) → Whole (chip .0) → (length (chip .1) ≡ storeLength → ⊥)
+pub wrong-store : (chip : Chip) (calls : List Call) → HasArrays (chip .0) → (length (chip .1) ≡ storeLength → ⊥)
     → (accepted chip calls ≡ []) × (applied chip calls ≡ []) × (blanked chip calls ≡ []) × (end chip calls ≡ chip)
 wrong-store chip calls whole wrong =
-    let e = law-calls Idle idle chip calls whole (λ on. wrong (fit-says (chip .0) (length (chip .1)) on .1)) in
+    let e = law-calls Idle idle chip calls whole (λ on. wrong (allowed-says (chip .0) (length (chip .1)) on .1)) in
     (e .1, rw (e .0), e .0, e .2)

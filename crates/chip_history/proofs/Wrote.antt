@@ -9,7 +9,7 @@ use Rattle.rules.specs.Rule.{Outcome, ok, refused}
 use Rattle.rules.specs.Faults.{Numbered, Clear}
 use Rattle.rules.proofs.Faults.{none-holds, accepted-clear, refused-leaves}
 use Rattle.chip_registers.specs.Blocks.{count}
-use Rattle.chip_registers.specs.Named.{placeOf, named}
+use Rattle.chip_registers.specs.Named.{addressPlace, named}
 use Rattle.chip_registers.specs.Kept.{fits}
 use Rattle.chip_registers.specs.Access.{waits}
 use Rattle.chip_registers.specs.declared.Register.{Register}
@@ -19,7 +19,7 @@ use Rattle.chip_registers.proofs.Naming.{named-word}
 use Rattle.chip_queue.specs.Queue.{full}
 use Rattle.chip.specs.Call.{Chip}
 use Rattle.chip.specs.Write.{registerFaults, writeFaults, put, putNamed, written}
-use Rattle.chip.proofs.Fit.{GoesOn, says-fit}
+use Rattle.chip.proofs.CallCheck.{GoesOn, says-allowed}
 use Rattle.chip_history.specs.Calls.{write}
 use Rattle.chip_history.specs.Ledger.{colourWrite, acceptedBy, accepts}
 
@@ -42,14 +42,14 @@ module _ (chip : Chip) (address value : ℕ) where
   wrote-on : Clear (writeFaults chip address value) → (names : Named) → named address ≡ names → Wrote chip address value
   unfolding written accepts
   wrote-on clear Nothing e =
-      let wrong : Clear (registerFaults (full (chip .0 .queue)) Nothing (placeOf address) value) = rw e at (clear .1 .1) in
+      let wrong : Clear (registerFaults (full (chip .0 .queue)) Nothing (addressPlace address) value) = rw e at (clear .1 .1) in
       absurd (true≢false (wrong .0))
   wrote-on clear (Is register) e =
-      let own : Clear (registerFaults (full (chip .0 .queue)) (Is register) (placeOf address) value) = rw e at (clear .1 .1) in
+      let own : Clear (registerFaults (full (chip .0 .queue)) (Is register) (addressPlace address) value) = rw e at (clear .1 .1) in
       let does = none-holds chip (putNamed chip (named address) value, tt) (writeFaults chip address value) clear in
       into register
       record {
-        on = says-fit (chip .0) (length (chip .1)) (not-false _ (clear .0)) (eqb-true _ _ (not-false _ (clear .1 .0)));
+        on = says-allowed (chip .0) (length (chip .1)) (not-false _ (clear .0)) (eqb-true _ _ (not-false _ (clear .1 .0)));
         here = named-word address register e;
         fine = not-false _ (own .1 .0);
         free = own .1 .1 .0;

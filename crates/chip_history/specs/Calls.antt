@@ -20,12 +20,12 @@ pub data Call : Type 0 where
   line : Call
 
 -- what a call leaves, refused or not
-unfoldable pub after : Chip → Call → Chip
-after chip (write address value) = written chip address value .0
-after chip (read address) = readBack chip address .0
-after chip dot = dotted chip .0
-after chip (dots count) = ran chip count .0
-after chip line = chip
+unfoldable pub leftBy : Chip → Call → Chip
+leftBy chip (write address value) = written chip address value .0
+leftBy chip (read address) = readBack chip address .0
+leftBy chip dot = dotted chip .0
+leftBy chip (dots count) = ran chip count .0
+leftBy chip line = chip
 
 -- the faults that a call looks for, in order; a line's are not said here
 abbrev pub faultsOf : Chip → Call → List Fault
@@ -46,4 +46,4 @@ RefusedBy chip line refusal = ⊥
 -- what some calls leave
 unfoldable pub end : Chip → List Call → Chip
 end chip [] = chip
-end chip (call ∷ calls) = end (after chip call) calls
+end chip (call ∷ calls) = end (leftBy chip call) calls

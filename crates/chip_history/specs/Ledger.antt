@@ -18,7 +18,7 @@ use Rattle.chip_queue.specs.declared.Queue.{Queue}
 use Rattle.chip.specs.Call.{Chip}
 use Rattle.chip.specs.Write.{written}
 use Rattle.chip.specs.Dot.{dotted}
-use Rattle.chip_history.specs.Calls.{Call, write, read, dot, dots, line, after}
+use Rattle.chip_history.specs.Calls.{Call, write, read, dot, dots, line, leftBy}
 
 -- ---- accepted
 
@@ -43,7 +43,7 @@ accepts chip line = []
 -- the colour writes that some calls accept
 unfoldable pub accepted : Chip → List Call → List Waiting
 accepted chip [] = []
-accepted chip (call ∷ calls) = accepts chip call ++ accepted (after chip call) calls
+accepted chip (call ∷ calls) = accepts chip call ++ accepted (leftBy chip call) calls
 
 -- ---- applied
 
@@ -72,7 +72,7 @@ blanks chip line = []
 -- for each blanked dot of some calls, in order, what it applies
 unfoldable pub blanked : Chip → List Call → List (List Waiting)
 blanked chip [] = []
-blanked chip (call ∷ calls) = blanks chip call ++ blanked (after chip call) calls
+blanked chip (call ∷ calls) = blanks chip call ++ blanked (leftBy chip call) calls
 
 -- the writes that some calls apply: at each dot that reported blank with something waiting, the oldest
 abbrev pub applied : Chip → List Call → List Waiting

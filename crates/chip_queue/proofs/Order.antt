@@ -7,7 +7,7 @@ use native.Mathlib.Omega.{arith}
 use borrow.Author.Tests.{lt-leb}
 use lib.ListN.{length, getD, set, take, drop, length-set, length-append}
 use lib.Seq.{take-suc-set}
-use Rattle.chip_queue.specs.Queue.{zeroSlot, Sized, waitingIn, full, oldest, pushed, popped}
+use Rattle.chip_queue.specs.Queue.{zeroSlot, HasSlots, waitingIn, full, oldest, pushed, popped}
 use Rattle.chip_queue.specs.declared.Waiting.{Waiting}
 use Rattle.chip_queue.specs.declared.Queue.{Queue}
 
@@ -18,11 +18,11 @@ module _ (queue : Queue) (write : Waiting) (more : queue .waiting < 64) where
   pushed-is = simp (lt-leb 64 (queue .waiting) more) refl
 
   -- it stands behind those that wait
-  pub waiting-pushed : Sized queue → waitingIn (pushed queue write) ≡ waitingIn queue ++ (write ∷ [])
+  pub waiting-pushed : HasSlots queue → waitingIn (pushed queue write) ≡ waitingIn queue ++ (write ∷ [])
   waiting-pushed sized = ap waitingIn pushed-is ∙ rw add-one (take-suc-set (queue .slots) (queue .waiting) write (omega arith))
 
   -- there are as many slots as before
-  pub sized-pushed : Sized queue → Sized (pushed queue write)
+  pub sized-pushed : HasSlots queue → HasSlots (pushed queue write)
   sized-pushed sized = rw pushed-is (simp length-set sized)
 
 -- of a list with one more at its end the first elements are the same
@@ -39,13 +39,13 @@ take-shift (suc n) (a ∷ slots) last h =
     let e : suc n - 1 ≡ n = omega arith in
     rw e (take-front n slots last (omega arith))
 
-module _ (queue : Queue) (sized : Sized queue) where
+module _ (queue : Queue) (sized : HasSlots queue) where
   -- the oldest leaves
   pub waiting-popped : queue .waiting ≤ 64 → waitingIn (popped queue) ≡ drop 1 (waitingIn queue)
   waiting-popped few = take-shift (queue .waiting) (queue .slots) zeroSlot (omega arith)
 
   -- there are as many slots as before
-  pub sized-popped : Sized (popped queue)
+  pub sized-popped : HasSlots (popped queue)
   sized-popped = by (queue .slots) sized
     where
       by : (slots : List Waiting) → length slots ≡ 64 → length (drop 1 slots ++ (zeroSlot ∷ [])) ≡ 64
@@ -62,7 +62,7 @@ module _ (queue : Queue) (sized : Sized queue) where
       by (suc n) (a ∷ slots) h l = refl
 
 -- as many wait as the count says
-pub length-waiting : (queue : Queue) → Sized queue → queue .waiting ≤ 64 → length (waitingIn queue) ≡ queue .waiting
+pub length-waiting : (queue : Queue) → HasSlots queue → queue .waiting ≤ 64 → length (waitingIn queue) ≡ queue .waiting
 length-waiting queue sized few = by (queue .waiting) (queue .slots) (omega arith)
   where
     by : (n : ℕ) (slots : List Waiting) → n ≤ length slots → length (take n slots) ≡ n

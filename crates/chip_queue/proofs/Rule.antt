@@ -12,7 +12,7 @@ use Rattle.chip_registers.specs.Blocks.{count}
 use Rattle.chip_registers.specs.Kept.{fits}
 use Rattle.chip_registers.specs.declared.Block.the-variants.{ColourMap}
 use Rattle.chip_queue.specs.Waiting.{registerOf, goodWrite}
-use Rattle.chip_queue.specs.Queue.{zeroSlot, waitingIn, oldest, pushed, popped, Sized}
+use Rattle.chip_queue.specs.Queue.{zeroSlot, waitingIn, oldest, pushed, popped, HasSlots}
 use Rattle.chip_queue.specs.Good.{allGood, goodQueue}
 use Rattle.chip_queue.specs.declared.Waiting.{Waiting}
 use Rattle.chip_queue.specs.declared.Queue.{Queue}
@@ -88,7 +88,7 @@ all-but-first : (writes : List Waiting) → allGood writes ≡ true → allGood 
 all-but-first [] h = refl
 all-but-first (a ∷ writes) h = both (goodWrite a) (allGood writes) h .1
 
-module _ (queue : Queue) (sized : Sized queue) (good : goodQueue queue ≡ true) where
+module _ (queue : Queue) (sized : HasSlots queue) (good : goodQueue queue ≡ true) where
   -- a good write may join where there is room
   pub good-pushed : (write : Waiting) → queue .waiting < 64 → goodWrite write ≡ true → goodQueue (pushed queue write) ≡ true
   good-pushed write more fine =

@@ -3,7 +3,7 @@ use mathlib.Core.Bool.{Bool, true, _&&_}
 use mathlib.Core.List.{List, [], _∷_}
 use lib.Dec.{leb}
 use Rattle.chip_queue.specs.Waiting.{goodWrite}
-use Rattle.chip_queue.specs.Queue.{depth, waitingIn}
+use Rattle.chip_queue.specs.Queue.{mostWaiting, waitingIn}
 use Rattle.chip_queue.specs.declared.Waiting.{Waiting}
 use Rattle.chip_queue.specs.declared.Queue.{Queue}
 
@@ -14,4 +14,4 @@ allGood (write ∷ writes) = goodWrite write && allGood writes
 
 -- at most 64 wait, and all that wait are good; slots beyond them do not count
 unfoldable pub goodQueue : Queue → Bool
-goodQueue queue = leb (queue .waiting) depth && allGood (waitingIn queue)
+goodQueue queue = leb (queue .waiting) mostWaiting && allGood (waitingIn queue)

@@ -2,7 +2,7 @@
 ghost use Prim.Native.Nat.{_-_};
 ghost use mathlib.Core.Path.{_≡_};
 ghost use Rattle.chip_queue.specs.Waiting.{goodWrite, target};
-ghost use Rattle.chip_queue.specs.Queue.{empty, room, full, oldest, pushed, popped};
+ghost use Rattle.chip_queue.specs.Queue.{emptyQueue, room, full, oldest, pushed, popped};
 ghost use Rattle.chip_queue.specs.Good.{goodQueue};
 use chip_registers::Block;
 use chip_registers::Register;
@@ -55,7 +55,7 @@ impl Waiting {
 impl Queue {
     // Nothing waits, and every slot is zero.
     pub fn new() -> Self
-        ensures { λ r. ⌜ r ≡ empty ⌝ }
+        ensures { λ r. ⌜ r ≡ emptyQueue ⌝ }
     {
         Self {
             waiting: 0,

@@ -9,14 +9,14 @@ use borrow.Author.Tests.{eqb-true, eq-eqb, ne-eqb}
 use lib.Dec.{eqb}
 use Rattle.rules.proofs.Cases.{impossible, le-or-lt}
 use Rattle.chip_registers.specs.Blocks.{blocks, start, count}
-use Rattle.chip_registers.specs.Named.{placeOf, wordAt, isWordOf, among, named}
+use Rattle.chip_registers.specs.Named.{addressPlace, wordAt, isWordOf, among, named}
 use Rattle.chip_registers.specs.declared.Block.{Block}
 use Rattle.chip_registers.specs.declared.Block.the-variants.{Control, WindowEntries, ColourMap, GammaMap, CursorGlyph, CursorColours}
 use Rattle.chip_registers.specs.declared.Register.{Register}
 use Rattle.chip_registers.specs.declared.Named.the-variants.{Is, Nothing}
 use Rattle.chip_registers.proofs.Blocks.{before-start, past-end, within, Until, alone}
 
-module _ (address place : ℕ) (same : place ≡ placeOf address) where
+module _ (address place : ℕ) (same : place ≡ addressPlace address) where
   -- an address that is no multiple of 4 names nothing
   pub named-unaligned : (place % 4 ≡ 0 → ⊥) → named address ≡ Nothing
   unfolding named
@@ -37,12 +37,12 @@ module _ (address place : ℕ) (same : place ≡ placeOf address) where
 pub named-top-byte : (address : ℕ) → named (address % 2 ^ 24) ≡ named address
 unfolding named
 named-top-byte address =
-    let same : placeOf (address % 2 ^ 24) ≡ placeOf address = omega arith in
+    let same : addressPlace (address % 2 ^ 24) ≡ addressPlace address = omega arith in
     ap (λ (place : ℕ). cond (eqb (place % 4) 0) (among blocks place) Nothing) same
 
 -- the place of a word: within its block's room, of 24 bits, a multiple of 4
 word-stands : (block : Block) (word : ℕ) → word < count block
-    → let place : ℕ = start block + 4 * word in Until block place × (place ≡ placeOf place) × (place % 4 ≡ 0)
+    → let place : ℕ = start block + 4 * word in Until block place × (place ≡ addressPlace place) × (place % 4 ≡ 0)
 word-stands Control word h = omega arith
 word-stands WindowEntries word h = omega arith
 word-stands ColourMap word h = omega arith
@@ -86,10 +86,10 @@ module _ (place : ℕ) (register : Register) where
 -- the register that an address names is a word of its block
 pub named-word : (address : ℕ) (register : Register) → named address ≡ Is register → register .word < count (register .block)
 unfolding named
-named-word address register e = by (eqb (placeOf address % 4) 0) refl
+named-word address register e = by (eqb (addressPlace address % 4) 0) refl
   where
-    by : (test : Bool) → eqb (placeOf address % 4) 0 ≡ test → register .word < count (register .block)
-    by true is = among-word (placeOf address) register blocks (rw is at e)
+    by : (test : Bool) → eqb (addressPlace address % 4) 0 ≡ test → register .word < count (register .block)
+    by true is = among-word (addressPlace address) register blocks (rw is at e)
     by false is = let wrong : Nothing ≡ Is register = rw is at e in impossible (cc)
 
 -- ---- where a register stands
@@ -120,10 +120,10 @@ module _ (place : ℕ) (register : Register) (aligned : place % 4 ≡ 0) where
       by false is rest = rest (rw is at e)
 
 -- the register that an address names stands at that address, so no two places name one register
-pub named-place : (address : ℕ) (register : Register) → named address ≡ Is register → placeOf address ≡ start (register .block) + 4 * register .word
+pub named-place : (address : ℕ) (register : Register) → named address ≡ Is register → addressPlace address ≡ start (register .block) + 4 * register .word
 unfolding named
-named-place address register e = by (eqb (placeOf address % 4) 0) refl
+named-place address register e = by (eqb (addressPlace address % 4) 0) refl
   where
-    by : (test : Bool) → eqb (placeOf address % 4) 0 ≡ test → placeOf address ≡ start (register .block) + 4 * register .word
-    by true is = among-place (placeOf address) register (eqb-true (placeOf address % 4) 0 is) blocks (rw is at e)
+    by : (test : Bool) → eqb (addressPlace address % 4) 0 ≡ test → addressPlace address ≡ start (register .block) + 4 * register .word
+    by true is = among-place (addressPlace address) register (eqb-true (addressPlace address % 4) 0 is) blocks (rw is at e)
     by false is = let wrong : Nothing ≡ Is register = rw is at e in impossible (cc)

@@ -9,8 +9,8 @@ use Rattle.chip_registers.specs.declared.Named.{Named}
 use Rattle.chip_registers.specs.declared.Named.the-variants.{Is, Nothing}
 
 -- the place that an address is: bits 31..24 are ignored, and 0 in a place
-abbrev pub placeOf : ℕ → ℕ
-placeOf address = address % 2 ^ 24
+abbrev pub addressPlace : ℕ → ℕ
+addressPlace address = address % 2 ^ 24
 
 -- which word of a block stands at a place
 abbrev pub wordAt : Block → ℕ → ℕ
@@ -27,4 +27,4 @@ among (block ∷ others) place = cond (isWordOf block place) (Is (record { block
 
 -- what an address names: a register stands at a multiple of 4
 unfoldable pub named : ℕ → Named
-named address = cond (eqb (placeOf address % 4) 0) (among blocks (placeOf address)) Nothing
+named address = cond (eqb (addressPlace address % 4) 0) (among blocks (addressPlace address)) Nothing

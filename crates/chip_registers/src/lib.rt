@@ -3,7 +3,7 @@ ghost use Prim.Native.Nat.{_≤_};
 ghost use mathlib.Core.Path.{_≡_};
 ghost use mathlib.Core.List.{[], _∷_};
 ghost use Rattle.chip_registers.specs.Blocks.{blocks, start, count};
-ghost use Rattle.chip_registers.specs.Named.{placeOf, among, named};
+ghost use Rattle.chip_registers.specs.Named.{addressPlace, among, named};
 ghost use Rattle.chip_registers.specs.Kept.{keptOfControl, keptOf, fits};
 ghost use Rattle.chip_registers.specs.Store.{storeStart, storeIndex};
 ghost use Rattle.chip_registers.specs.Access.{readOnly, waits};
@@ -76,7 +76,7 @@ impl Block {
 
 // An address without its bits 31..24.
 pub fn place(address: u32) -> u32
-    ensures { λ r. ⌜ r ≡ placeOf address ⌝ }
+    ensures { λ r. ⌜ r ≡ addressPlace address ⌝ }
 {
     address % 0x1000000
 }

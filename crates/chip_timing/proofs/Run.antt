@@ -7,7 +7,7 @@ use native.Mathlib.Omega.{arith}
 use borrow.Author.Tests.{eqb-true, ltb-false, lt-ltb, le-ltb, le-leb, lt-leb}
 use Rattle.words.specs.Field.{field}
 use Rattle.chip_timing.specs.Window.{inWindow}
-use Rattle.chip_timing.specs.Signals.{holds, isEmpty, signalsAt}
+use Rattle.chip_timing.specs.Signals.{windowHolds, isEmpty, signalsAt}
 use Rattle.chip_timing.specs.Move.{positionAfter}
 use Rattle.chip_timing.specs.declared.Position.{Position}
 use Rattle.chip_timing.specs.declared.Windows.{Windows}
@@ -60,9 +60,9 @@ module _ (ws : Windows) (at : Position) (word : ℕ) (clear : signalsAt ws at .b
   -- the dots of its line that come before horizontal blank comes on are a clear run
   pub run-along : (run : ℕ) → at .x + run ≤ field word 11 0 + 1 → (at .x < field (ws .hblank) 11 0 → at .x + run ≤ field (ws .hblank) 11 0)
       → (i : ℕ) → i < run → signalsAt ws (positionAfter at i word) .blank ≡ false
-  unfolding signalsAt holds
+  unfolding signalsAt windowHolds
   run-along run within before i h =
-      let dark = neither (holds (ws .hblank) (at .x)) (holds (ws .vblank) (at .y)) clear in
+      let dark = neither (windowHolds (ws .hblank) (at .x)) (windowHolds (ws .vblank) (at .y)) clear in
       rw (
         after-line at i word (omega arith),
         window-clear (field (ws .hblank) 11 0) (field (ws .hblank) 27 16) (at .x) (at .x + i) (omega arith) (λ b. omega (arith, before b)) (dark .0),
@@ -70,8 +70,8 @@ module _ (ws : Windows) (at : Position) (word : ℕ) (clear : signalsAt ws at .b
       (dark .1)
 
 -- an empty window holds nowhere
-empty-holds : (word p : ℕ) → isEmpty word ≡ true → holds word p ≡ false
-unfolding isEmpty holds inWindow
+empty-holds : (word p : ℕ) → isEmpty word ≡ true → windowHolds word p ≡ false
+unfolding isEmpty windowHolds inWindow
 empty-holds word p empty =
     let e = eqb-true (field word 11 0) (field word 27 16) empty in
     rw (le-ltb (field word 11 0) (field word 27 16) (omega (arith, e)), le-ltb (field word 27 16) (field word 11 0) (omega (arith, e)))

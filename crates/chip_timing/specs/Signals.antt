@@ -9,8 +9,8 @@ use Rattle.chip_timing.specs.declared.Windows.{Windows}
 use Rattle.chip_timing.specs.declared.Signals.{Signals}
 
 -- whether p is in the window of a control word, which has on in 11..0 and off in 27..16
-unfoldable pub holds : ℕ → ℕ → Bool
-holds word p = inWindow (field word 11 0) (field word 27 16) p
+unfoldable pub windowHolds : ℕ → ℕ → Bool
+windowHolds word p = inWindow (field word 11 0) (field word 27 16) p
 
 -- the window of a control word is empty: on and off are equal
 unfoldable pub isEmpty : ℕ → Bool
@@ -20,7 +20,7 @@ isEmpty word = eqb (field word 11 0) (field word 27 16)
 unfoldable pub signalsAt : Windows → Position → Signals
 signalsAt windows at =
     record {
-      hsync = holds (windows .hsync) (at .x);
-      vsync = holds (windows .vsync) (at .y);
-      blank = holds (windows .hblank) (at .x) || holds (windows .vblank) (at .y);
+      hsync = windowHolds (windows .hsync) (at .x);
+      vsync = windowHolds (windows .vsync) (at .y);
+      blank = windowHolds (windows .hblank) (at .x) || windowHolds (windows .vblank) (at .y);
     }

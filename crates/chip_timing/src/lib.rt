@@ -4,7 +4,7 @@ ghost use mathlib.Core.Path.{_≡_};
 ghost use mathlib.Core.Bool.{false, _&&_};
 ghost use Rattle.words.specs.Field.{field};
 ghost use Rattle.chip_timing.specs.Window.{inWindow};
-ghost use Rattle.chip_timing.specs.Signals.{holds, isEmpty, signalsAt};
+ghost use Rattle.chip_timing.specs.Signals.{windowHolds, isEmpty, signalsAt};
 ghost use Rattle.chip_timing.specs.Move.{nextPosition, positionAfter};
 ghost use Rattle.chip_timing.specs.Walk.{walked};
 
@@ -23,7 +23,7 @@ pub fn in_window(on: u32, off: u32, p: u32) -> bool
 
 // Whether p is in the window of a control word.
 fn holds(word: u32, p: u32) -> bool
-    ensures { λ r. ⌜ r ≡ holds word p ⌝ }
+    ensures { λ r. ⌜ r ≡ windowHolds word p ⌝ }
 {
     in_window(words::field(word, 11, 0), words::field(word, 27, 16), p)
 }

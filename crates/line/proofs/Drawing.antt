@@ -13,13 +13,13 @@ use Rattle.rules.specs.Faults.{Numbered}
 use Rattle.rules.proofs.Cases.{impossible}
 use Rattle.rules.proofs.Fill.{fill-run, filled-length, tail-lent}
 use Rattle.refusals.specs.declared.Refusal.{Refusal}
-use Rattle.line_colour.specs.declared.entry.Entry.{Entry}
+use Rattle.line_colour.specs.declared.entry.WindowEntry.{WindowEntry}
 use Rattle.line_pixels.specs.Cells.{pixelView}
-use Rattle.line_pixels.specs.Colour.{overlayCounts, colourOf}
+use Rattle.line_pixels.specs.Colour.{overlayCounts, colourOfPixel}
 use Rattle.line_setup.specs.declared.controls.Controls.{Controls}
 use Rattle.line.specs.Screen.{screenOf}
 use Rattle.line.specs.Cells.{Lent, lentOf}
-use Rattle.line.specs.Inner.{Sized, RunTold, Entries, colourBy, colourAt, Enough}
+use Rattle.line.specs.Inner.{InRange, RunAnswer, Entries, colourBy, colourAt, Enough}
 use Rattle.line.specs.declared.runs.Run.{Run}
 use Rattle.line.specs.declared.runs.RunAt.the-variants.{Is, Refused}
 use Rattle.line.proofs.Pass.{Passing, pass-start, pass-run}
@@ -45,17 +45,17 @@ module _ (controls : Controls) (y : ℕ) (store table normal overlay : List ℕ)
   draw-start output = record { passing = pass-start controls store table start; long = refl; list = refl }
 
   -- a pixel of a run has the colour that the run's entry gives it
-  run-colour : {x : ℕ} (found : Run) → RunTold controls store table start x (Is found) → (p : ℕ) → x ≤ p → p < found .end
-      → value (pixelView store normal overlay) (colourOf (screenOf controls y) (found .entry) p) ≡ colourAt controls y lent start p
+  run-colour : {x : ℕ} (found : Run) → RunAnswer controls store table start x (Is found) → (p : ℕ) → x ≤ p → p < found .end
+      → value (pixelView store normal overlay) (colourOfPixel (screenOf controls y) (found .entry) p) ≡ colourAt controls y lent start p
   unfolding colourAt
   run-colour found told p low high =
-      ap (λ (outcome : Outcome Numbered Entry). colourBy (pixelView store normal overlay) (screenOf controls y) p outcome) (sym (told .4 normal overlay p low high))
+      ap (λ (outcome : Outcome Numbered WindowEntry). colourBy (pixelView store normal overlay) (screenOf controls y) p outcome) (sym (told .4 normal overlay p low high))
 
   module _ {before now : List ℕ} {x from : ℕ} (here : Drawing before now x from) (enough : Enough controls lent before) (found : Run)
-      (told : RunTold controls store table start x (Is found)) where
+      (told : RunAnswer controls store table start x (Is found)) where
     -- one run on, which was lent the output from its first pixel on
     pub draw-run : (last : List ℕ)
-        → last ≡ filled (λ p. value (pixelView store normal overlay) (colourOf (screenOf controls y) (found .entry) p)) x (take (length now - x) (drop x now)) (found .end - x)
+        → last ≡ filled (λ p. value (pixelView store normal overlay) (colourOfPixel (screenOf controls y) (found .entry) p)) x (take (length now - x) (drop x now)) (found .end - x)
         → Drawing before (putMid x (length now - x) now last) (found .end) (found .next)
     draw-run last run =
         let list = fill-run (colourAt controls y lent start) _ x (found .end) before now last (omega (arith, told .0)) (here .list) run (run-colour found told) in
@@ -66,7 +66,7 @@ module _ (controls : Controls) (y : ℕ) (store table normal overlay : List ℕ)
         }
 
     -- there are pixels for it in the normal row
-    pub normal-reaches : Sized controls → (x + (found .end - x)) * (screenOf controls y .depth / 8) ≤ length normal
+    pub normal-reaches : InRange controls → (x + (found .end - x)) * (screenOf controls y .depth / 8) ≤ length normal
     normal-reaches sized =
         let sum : x + (found .end - x) ≡ found .end = omega (arith, told .0) in
         rw (sum, enough .normal-long)
@@ -87,7 +87,7 @@ module _ (controls : Controls) (y : ℕ) (store table normal overlay : List ℕ)
 
   -- where every pixel has a window entry no run is refused
   pub none-refused : (refusal : Refusal) (x : ℕ) → Entries controls store table start → x < controls .width
-      → RunTold controls store table start x (Refused refusal) → ⊥
+      → RunAnswer controls store table start x (Refused refusal) → ⊥
   none-refused refusal x entries inside told =
       let has = entries normal overlay x inside in
       let e = sym (has .1) ∙ told normal overlay in

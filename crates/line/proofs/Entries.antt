@@ -12,26 +12,26 @@ use Rattle.rules.proofs.Then.{run-ok, run-refused, run-within}
 use Rattle.refusals.specs.Refusal.{numbered}
 use Rattle.refusals.specs.declared.Refusal.the-variants.{UndefinedEntry}
 use Rattle.line_colour.specs.Entry.{decoded}
-use Rattle.line_colour.specs.declared.entry.Entry.{Entry}
+use Rattle.line_colour.specs.declared.entry.WindowEntry.{WindowEntry}
 use Rattle.line_colour.specs.declared.entry.Decoded.{Decoded}
 use Rattle.line_colour.specs.declared.entry.Decoded.the-variants.{Defined, Undefined}
 use Rattle.line_colour.proofs.Kept.{decoded-kept}
 use Rattle.chip_registers.specs.Store.{stored}
 use Rattle.chip_registers.specs.declared.Block.the-variants.{WindowEntries}
 use Rattle.line_windows.specs.Table.{TableCell, tableView}
-use Rattle.line_windows.specs.Frame.{lineTableOf, told as startSaid}
+use Rattle.line_windows.specs.Frame.{lineTableOf, lineTableOutcome}
 use Rattle.line_windows.specs.Ids.{idOf}
-use Rattle.line_windows.specs.Carried.{foundFrom, told as foundSaid, idBelow}
+use Rattle.line_windows.specs.Carried.{foundFrom, lookUpOutcome, idBelow}
 use Rattle.line_windows.specs.declared.frame.LineTable.{LineTable}
 use Rattle.line_windows.specs.declared.frame.LineTable.the-variants.{Starts, Refused as NoTable}
-use Rattle.line_windows.specs.declared.ids.Found.{Found}
+use Rattle.line_windows.specs.declared.ids.FoundId.{FoundId}
 use Rattle.line_windows.specs.declared.ids.LookedUp.{LookedUp}
 use Rattle.line_windows.specs.declared.ids.LookedUp.the-variants.{Id, Refused as NoId}
 use Rattle.line_windows.proofs.Pixels.{found-serves, refused-serves}
 use Rattle.line_setup.specs.declared.controls.Controls.{Controls}
 use Rattle.line.specs.Cells.{Lent, lentOf, view}
-use Rattle.line.specs.Line.{inTable, startOf, idAt, definedAt, entryAt}
-use Rattle.line.specs.Inner.{PassedAt, Served, RunTold, StartTold}
+use Rattle.line.specs.Line.{inTable, startOf, idAt, definedAt, windowEntryAt}
+use Rattle.line.specs.Inner.{PassedAt, Served, RunAnswer, StartAnswer}
 use Rattle.line.specs.declared.runs.RunAt.the-variants.{Is}
 
 -- refusals under their own names
@@ -46,20 +46,20 @@ run-in-table lent rule = run-within _ _ (view lent) rule ∙ renamed-same _
 module _ (controls : Controls) (table : List ℕ) where
   -- where the line table starts, window IDs on
   pub start-on : (y : ℕ) (found : LineTable) → controls .ids ≡ true
-      → startSaid found ≡ run (tableView table) (lineTableOf (length table) y) → StartTold controls table y found
+      → lineTableOutcome found ≡ run (tableView table) (lineTableOf (length table) y) → StartAnswer controls table y found
   unfolding startOf
   start-on y (Starts byte) on says = λ store normal overlay. rw on (run-in-table (lentOf store table normal overlay) (lineTableOf (length table) y) ∙ sym says)
   start-on y (NoTable refusal) on says = λ store normal overlay. rw on (run-in-table (lentOf store table normal overlay) (lineTableOf (length table) y) ∙ sym says)
 
   -- off, there is none
-  pub start-off : (y : ℕ) → controls .ids ≡ false → StartTold controls table y (Starts 0)
+  pub start-off : (y : ℕ) → controls .ids ≡ false → StartAnswer controls table y (Starts 0)
   unfolding startOf
   start-off y off = λ store normal overlay. rw off refl
 
   module _ (start from x : ℕ) where
     -- a pixel's ID, window IDs on
     pub served-on : (found : LookedUp) → controls .ids ≡ true → PassedAt controls table start from x
-        → foundSaid found ≡ run (tableView table) (foundFrom (length table) start from x) → idBelow found → Served controls table start x found
+        → lookUpOutcome found ≡ run (tableView table) (foundFrom (length table) start from x) → idBelow found → Served controls table start x found
     unfolding idAt
     served-on (Id found) on passed says below =
         let serves = found-serves (tableView table) (length table) start from x (passed on) (sym says) in (
@@ -88,41 +88,41 @@ kept-decoded store id depth =
 module _ (controls : Controls) (lent : Lent) (start x : ℕ) where
   -- no ID: that refusal
   pub entry-no-id : {refusal : Numbered} → run (view lent) (idAt controls (length (lent .table)) start x) ≡ refused refusal
-      → run (view lent) (entryAt controls (length (lent .table)) start x) ≡ refused refusal
-  unfolding entryAt
+      → run (view lent) (windowEntryAt controls (length (lent .table)) start x) ≡ refused refusal
+  unfolding windowEntryAt
   entry-no-id none = run-refused (view lent) (idAt controls (length (lent .table)) start x) _ none
 
   module _ {id : ℕ} (found : run (view lent) (idAt controls (length (lent .table)) start x) ≡ ok id) where
     -- the decoder decides
     by-decoded : {what : Decoded} → decoded (getD (lent .store) id 0) (controls .depth) ≡ what
-        → run (view lent) (entryAt controls (length (lent .table)) start x) ≡ run (view lent) (definedAt x what)
-    unfolding entryAt
+        → run (view lent) (windowEntryAt controls (length (lent .table)) start x) ≡ run (view lent) (definedAt x what)
+    unfolding windowEntryAt
     by-decoded e =
         run-ok (view lent) (idAt controls (length (lent .table)) start x) _ found
         ∙ ap (λ (what : Decoded). run (view lent) (definedAt x what)) (kept-decoded (lent .store) id (controls .depth) ∙ e)
 
     -- an ID and a defined entry
-    pub entry-defined : {entry : Entry} → decoded (getD (lent .store) id 0) (controls .depth) ≡ Defined entry
-        → run (view lent) (entryAt controls (length (lent .table)) start x) ≡ ok entry
+    pub entry-defined : {entry : WindowEntry} → decoded (getD (lent .store) id 0) (controls .depth) ≡ Defined entry
+        → run (view lent) (windowEntryAt controls (length (lent .table)) start x) ≡ ok entry
     entry-defined e = by-decoded e
 
     -- an ID and an undefined entry: 9
     pub entry-undefined : decoded (getD (lent .store) id 0) (controls .depth) ≡ Undefined
-        → run (view lent) (entryAt controls (length (lent .table)) start x) ≡ refused (numbered (UndefinedEntry x))
+        → run (view lent) (windowEntryAt controls (length (lent .table)) start x) ≡ refused (numbered (UndefinedEntry x))
     entry-undefined e = by-decoded e
 
 -- what the look-up answered for pixel x, and the decoder for the window entry of its ID
-module _ (controls : Controls) (store table : List ℕ) (start x : ℕ) (found : Found) (entry : Entry) (served : Served controls table start x (Id found))
+module _ (controls : Controls) (store table : List ℕ) (start x : ℕ) (found : FoundId) (entry : WindowEntry) (served : Served controls table start x (Id found))
     (says : decoded (getD store (found .id) 0) (controls .depth) ≡ Defined entry) (inside : x < controls .width) where
   -- each pixel up to the last has that entry
   all-have : (normal overlay : List ℕ) (p : ℕ) → x ≤ p → p ≤ found .last
-      → run (view (lentOf store table normal overlay)) (entryAt controls (length table) start p) ≡ ok entry
+      → run (view (lentOf store table normal overlay)) (windowEntryAt controls (length table) start p) ≡ ok entry
   all-have normal overlay p low high =
       entry-defined controls (lentOf store table normal overlay) start p (served .3 store normal overlay p low high) says
 
   -- a run that ends within the line
   pub run-within-line : found .last < controls .width
-      → RunTold controls store table start x (Is (record { entry = entry; end = found .last + 1; next = found .next }))
+      → RunAnswer controls store table start x (Is (record { entry = entry; end = found .last + 1; next = found .next }))
   run-within-line within = (
     omega (arith, served .1),
     omega arith,
@@ -133,7 +133,7 @@ module _ (controls : Controls) (store table : List ℕ) (start x : ℕ) (found :
 
   -- a run to the end of the line
   pub run-to-end : controls .width ≤ found .last
-      → RunTold controls store table start x (Is (record { entry = entry; end = controls .width; next = found .next }))
+      → RunAnswer controls store table start x (Is (record { entry = entry; end = controls .width; next = found .next }))
   run-to-end beyond = (
     inside,
     omega arith,

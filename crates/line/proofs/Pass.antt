@@ -16,29 +16,29 @@ use Rattle.rules.proofs.Each.{each-ok, each-stop}
 use Rattle.refusals.specs.Refusal.{numbered}
 use Rattle.refusals.specs.declared.Refusal.{Refusal}
 use Rattle.line_formats.specs.declared.Format.the-variants.{Index8}
-use Rattle.line_colour.specs.declared.entry.Entry.{Entry}
+use Rattle.line_colour.specs.declared.entry.WindowEntry.{WindowEntry}
 use Rattle.line_windows.specs.Table.{tableView}
 use Rattle.line_windows.proofs.Pixels.{passed-start}
 use Rattle.line_setup.specs.declared.controls.Controls.{Controls}
 use Rattle.line.specs.Cells.{lentOf, view}
-use Rattle.line.specs.Line.{entryAt}
-use Rattle.line.specs.Inner.{Over, PassedAt, RunTold, Entries}
+use Rattle.line.specs.Line.{windowEntryAt}
+use Rattle.line.specs.Inner.{Over, PassedAt, RunAnswer, Entries}
 use Rattle.line.specs.declared.runs.Run.{Run}
 use Rattle.line.specs.declared.runs.RunAt.the-variants.{Is, Refused}
 
 -- the entry of an outcome; any one where it was refused
-abbrev pub entryOf : Outcome Numbered Entry → Entry
+abbrev pub entryOf : Outcome Numbered WindowEntry → WindowEntry
 entryOf (ok entry) = entry
 entryOf (refused refusal) = record { format = Index8; low = 0; bank = 0; bypass = false; overlay = false }
 
 -- an outcome that has an entry has that
-pub has-entry : {outcome : Outcome Numbered Entry} → ((entry : Entry) × (outcome ≡ ok entry)) → outcome ≡ ok (entryOf outcome)
-has-entry has = has .1 ∙ ap (λ (outcome : Outcome Numbered Entry). ok (entryOf outcome)) (sym (has .1))
+pub has-entry : {outcome : Outcome Numbered WindowEntry} → ((entry : WindowEntry) × (outcome ≡ ok entry)) → outcome ≡ ok (entryOf outcome)
+has-entry has = has .1 ∙ ap (λ (outcome : Outcome Numbered WindowEntry). ok (entryOf outcome)) (sym (has .1))
 
 module _ (controls : Controls) (store table : List ℕ) (start : ℕ) where
   -- every pixel before x has a defined window entry
   abbrev pub HadTo : ℕ → Type 0
-  HadTo x = Over store table (λ memory. (p : ℕ) → p < x → (entry : Entry) × (run memory (entryAt controls (length table) start p) ≡ ok entry))
+  HadTo x = Over store table (λ memory. (p : ℕ) → p < x → (entry : WindowEntry) × (run memory (windowEntryAt controls (length table) start p) ≡ ok entry))
 
   -- a pass by runs is at pixel x, and its look-up goes on from a line entry
   pub record Passing (x from : ℕ) : Type 0 where
@@ -56,7 +56,7 @@ module _ (controls : Controls) (store table : List ℕ) (start : ℕ) where
 
   module _ {x from : ℕ} (here : Passing x from) where
     -- one run on
-    pub pass-run : {found : Run} → RunTold controls store table start x (Is found) → Passing (found .end) (found .next)
+    pub pass-run : {found : Run} → RunAnswer controls store table start x (Is found) → Passing (found .end) (found .next)
     pass-run {found} told = record {
       in-range = told .1;
       goes-on = told .2;
@@ -65,11 +65,11 @@ module _ (controls : Controls) (store table : List ℕ) (start : ℕ) where
     }
 
     -- a run that is refused decides the line
-    pub pass-refused : (refusal : Refusal) → x < controls .width → RunTold controls store table start x (Refused refusal)
-        → Over store table (λ memory. run memory (each (entryAt controls (length table) start) (controls .width) 0) ≡ refused (numbered refusal))
+    pub pass-refused : (refusal : Refusal) → x < controls .width → RunAnswer controls store table start x (Refused refusal)
+        → Over store table (λ memory. run memory (each (windowEntryAt controls (length table) start) (controls .width) 0) ≡ refused (numbered refusal))
     pass-refused refusal more told = λ normal overlay.
         let memory = view (lentOf store table normal overlay) in
-        each-stop memory (entryAt controls (length table) start) (λ p. entryOf (run memory (entryAt controls (length table) start p))) x (controls .width) 0 more
+        each-stop memory (windowEntryAt controls (length table) start) (λ p. entryOf (run memory (windowEntryAt controls (length table) start p))) x (controls .width) 0 more
         (λ p low high. has-entry (here .had normal overlay p (omega arith))) (rw zero-add (told normal overlay))
 
     -- after the last run
@@ -79,9 +79,9 @@ module _ (controls : Controls) (store table : List ℕ) (start : ℕ) where
   -- the first pass of a line all of whose pixels have entries
   pub entries-run : Entries controls store table start → (normal overlay : List ℕ)
       → let memory = view (lentOf store table normal overlay) in
-      run memory (each (entryAt controls (length table) start) (controls .width) 0)
-      ≡ ok (values (λ p. entryOf (run memory (entryAt controls (length table) start p))) (controls .width) 0)
+      run memory (each (windowEntryAt controls (length table) start) (controls .width) 0)
+      ≡ ok (values (λ p. entryOf (run memory (windowEntryAt controls (length table) start p))) (controls .width) 0)
   entries-run all normal overlay =
       let memory = view (lentOf store table normal overlay) in
-      each-ok memory (entryAt controls (length table) start) (λ p. entryOf (run memory (entryAt controls (length table) start p))) (controls .width) 0
+      each-ok memory (windowEntryAt controls (length table) start) (λ p. entryOf (run memory (windowEntryAt controls (length table) start p))) (controls .width) 0
       (λ p low high. has-entry (all normal overlay p (omega arith)))

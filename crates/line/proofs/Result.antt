@@ -13,8 +13,8 @@ use Rattle.line_setup.specs.Controls.{switch, depthOf, controlsOf}
 use Rattle.line_setup.specs.declared.setup.Setup.{Setup}
 use Rattle.line.specs.Cells.{Lent, view}
 use Rattle.line.specs.Line.{lineRule, lineOf}
-use Rattle.line.specs.Drawn.{setupOf, said, after, drawn}
-use Rattle.line.specs.Inner.{Sized}
+use Rattle.line.specs.Drawn.{setupOf, withoutColours, outputAfter, drawn}
+use Rattle.line.specs.Inner.{InRange}
 
 -- either depth, by the switch
 either-depth : (on : Bool) → (_≡_ {A = ℕ} (cond on 32 16) 16) ⊎ (_≡_ {A = ℕ} (cond on 32 16) 32)
@@ -22,7 +22,7 @@ either-depth true = inr refl
 either-depth false = inl refl
 
 -- width and depth of control words have their ranges
-pub controls-sized : (control : List ℕ) → Sized (controlsOf control)
+pub controls-sized : (control : List ℕ) → InRange (controlsOf control)
 unfolding controlsOf depthOf
 controls-sized control = record {
   width-le = omega arith;
@@ -32,8 +32,8 @@ controls-sized control = record {
 module _ (state : State) (y : ℕ) (lent : Lent) (output : List ℕ) (setup : Setup) (is : setup ≡ setupOf state y lent (length output)) where
   -- what the rule comes to is all of it
   pub drawn-by : {line : Outcome Numbered (List ℕ)} → run (view lent) (lineRule setup) ≡ line
-      → ((state, after (setup .controls .width) output line), said line) ≡ drawn state y lent output
+      → ((state, outputAfter (setup .controls .width) output line), withoutColours line) ≡ drawn state y lent output
   unfolding drawn lineOf
   drawn-by e =
-      ap (λ (line : Outcome Numbered (List ℕ)). ((state, after (setup .controls .width) output line), said line)) (sym e)
-      ∙ ap (λ (by : Setup). ((state, after (by .controls .width) output (run (view lent) (lineRule by))), said (run (view lent) (lineRule by)))) is
+      ap (λ (line : Outcome Numbered (List ℕ)). ((state, outputAfter (setup .controls .width) output line), withoutColours line)) (sym e)
+      ∙ ap (λ (by : Setup). ((state, outputAfter (by .controls .width) output (run (view lent) (lineRule by))), withoutColours (run (view lent) (lineRule by)))) is

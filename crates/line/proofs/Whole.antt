@@ -13,14 +13,14 @@ use Rattle.rules.proofs.Then.{run-ok, run-refused}
 use Rattle.rules.proofs.Each.{each-ok, each-of-values}
 use Rattle.rules.proofs.Checked.{run-checked}
 use Rattle.rules.proofs.Value.{run-within-value}
-use Rattle.line_colour.specs.declared.entry.Entry.{Entry}
+use Rattle.line_colour.specs.declared.entry.WindowEntry.{WindowEntry}
 use Rattle.line_pixels.specs.Cells.{pixelView}
-use Rattle.line_pixels.specs.Colour.{colourOf}
+use Rattle.line_pixels.specs.Colour.{colourOfPixel}
 use Rattle.line_setup.specs.Faults.{lineFaults}
 use Rattle.line_setup.specs.declared.setup.Setup.{Setup}
 use Rattle.line.specs.Screen.{screenIn}
 use Rattle.line.specs.Cells.{Cell, ofColour, Lent, lentOf, view}
-use Rattle.line.specs.Line.{startOf, entryAt, entriesOf, inColours, coloursOf, lineRule}
+use Rattle.line.specs.Line.{startOf, windowEntryAt, entriesOf, inColours, coloursOf, lineRule}
 use Rattle.line.specs.Inner.{Drawable, colourBy, colourAt}
 use Rattle.line.proofs.Pass.{entryOf, has-entry, entries-run}
 
@@ -48,7 +48,7 @@ module _ (setup : Setup) (lent : Lent) where
     module _ {start : ℕ} (starts : run (view lent) (startOf (setup .controls) (setup .lengths .table) (setup .y)) ≡ ok start) where
       -- a pixel without a defined window entry: its refusal
       pub line-no-entry : {refusal : Numbered}
-          → run (view lent) (each (entryAt (setup .controls) (setup .lengths .table) start) (setup .controls .width) 0) ≡ refused refusal
+          → run (view lent) (each (windowEntryAt (setup .controls) (setup .lengths .table) start) (setup .controls .width) 0) ≡ refused refusal
           → run (view lent) (lineRule setup) ≡ refused refusal
       unfolding entriesOf
       line-no-entry none =
@@ -57,8 +57,8 @@ module _ (setup : Setup) (lent : Lent) where
           (run-ok (view lent) (startOf (setup .controls) (setup .lengths .table) (setup .y)) _ starts ∙ none)
 
       -- every pixel with one: the colours
-      pub line-coloured : {entries : List Entry}
-          → run (view lent) (each (entryAt (setup .controls) (setup .lengths .table) start) (setup .controls .width) 0) ≡ ok entries
+      pub line-coloured : {entries : List WindowEntry}
+          → run (view lent) (each (windowEntryAt (setup .controls) (setup .lengths .table) start) (setup .controls .width) 0) ≡ ok entries
           → run (view lent) (lineRule setup) ≡ run (view lent) (coloursOf setup entries)
       unfolding entriesOf
       line-coloured all =
@@ -75,13 +75,13 @@ line-drawn setup store table normal overlay start long drawable =
     let lent = lentOf store table normal overlay in
     let memory = view lent in
     let screen = screenIn setup in
-    let found : ℕ → Entry = λ p. entryOf (run memory (entryAt (setup .controls) (length table) start p)) in
+    let found : ℕ → WindowEntry = λ p. entryOf (run memory (windowEntryAt (setup .controls) (length table) start p)) in
     line-coloured setup lent (drawable .fit) {start = start} (rw (sym long) (drawable .starts normal overlay)) {entries = values found (setup .controls .width) 0}
     (rw (sym long) (entries-run (setup .controls) store table start (drawable .entries) normal overlay))
     ∙ ap (λ (rule : Rule Numbered Cell (List ℕ)). run memory rule)
-    (each-of-values (λ (entry : Entry) (x : ℕ). inColours (colourOf screen entry x)) found (setup .controls .width) 0)
-    ∙ each-ok memory (λ (x : ℕ). inColours (colourOf screen (found x) x)) (colourAt (setup .controls) (setup .y) lent start) (setup .controls .width) 0
+    (each-of-values (λ (entry : WindowEntry) (x : ℕ). inColours (colourOfPixel screen entry x)) found (setup .controls .width) 0)
+    ∙ each-ok memory (λ (x : ℕ). inColours (colourOfPixel screen (found x) x)) (colourAt (setup .controls) (setup .y) lent start) (setup .controls .width) 0
     (λ x low high.
-    run-within-value _ ofColour memory (colourOf screen (found x) x)
-    ∙ ap (λ (outcome : Outcome Numbered Entry). ok (colourBy (pixelView store normal overlay) screen x outcome))
+    run-within-value _ ofColour memory (colourOfPixel screen (found x) x)
+    ∙ ap (λ (outcome : Outcome Numbered WindowEntry). ok (colourBy (pixelView store normal overlay) screen x outcome))
     (sym (has-entry (drawable .entries normal overlay x (omega arith)))))

@@ -4,15 +4,12 @@ use mathlib.Core.List.{List, _++_}
 use lib.ListN.{length, drop}
 use Rattle.rules.specs.Rule.{Outcome, ok, refused}
 use Rattle.rules.specs.Faults.{Numbered}
-use Rattle.refusals.specs.Refusal.{numbered}
 use Rattle.chip.specs.State.{goodState}
 use Rattle.chip.specs.declared.state.State.{State}
 use Rattle.line_setup.specs.Controls.{controlsOf}
 use Rattle.line_setup.specs.declared.setup.Setup.{Setup}
 use Rattle.line.specs.Cells.{Lent}
 use Rattle.line.specs.Line.{lineOf}
-use Rattle.line.specs.declared.draw.Answer.{Answer}
-use Rattle.line.specs.declared.draw.Answer.the-variants.{Drawn, Refused}
 
 -- what a line goes by, of a state, a line number, what is lent and the output's length
 unfoldable pub setupOf : State → ℕ → Lent → ℕ → Setup
@@ -30,24 +27,19 @@ setupOf state y lent output =
       };
     }
 
--- what the answer says: drawn, or a refusal's number and values
-abbrev pub told : Answer → Outcome Numbered (Unit {0})
-told Drawn = ok tt
-told (Refused refusal) = refused (numbered refusal)
-
 -- that the line is drawn, or its refusal; the colours go to the output
-abbrev pub said : Outcome Numbered (List ℕ) → Outcome Numbered (Unit {0})
-said (ok colours) = ok tt
-said (refused refusal) = refused refusal
+abbrev pub withoutColours : Outcome Numbered (List ℕ) → Outcome Numbered (Unit {0})
+withoutColours (ok colours) = ok tt
+withoutColours (refused refusal) = refused refusal
 
 -- the output after it: the colours of the active width with the words past it as they were, or all as it was
-abbrev pub after : ℕ → List ℕ → Outcome Numbered (List ℕ) → List ℕ
-after width output (ok colours) = colours ++ drop width output
-after width output (refused refusal) = output
+abbrev pub outputAfter : ℕ → List ℕ → Outcome Numbered (List ℕ) → List ℕ
+outputAfter width output (ok colours) = colours ++ drop width output
+outputAfter width output (refused refusal) = output
 
 -- the state, the output and the answer; the state is handed back as it was
 unfoldable pub drawn : State → ℕ → Lent → List ℕ → (State × List ℕ) × Outcome Numbered (Unit {0})
 drawn state y lent output =
     let setup = setupOf state y lent (length output) in
     let line = lineOf setup lent in
-    ((state, after (setup .controls .width) output line), said line)
+    ((state, outputAfter (setup .controls .width) output line), withoutColours line)

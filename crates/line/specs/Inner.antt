@@ -11,9 +11,9 @@ use Rattle.rules.specs.Each.{each}
 use Rattle.rules.specs.Faults.{Numbered}
 use Rattle.rules.specs.Checked.{verdict}
 use Rattle.refusals.specs.Refusal.{numbered}
-use Rattle.refusals.specs.declared.Fit.the-variants.{Yes, Refused as Unfit}
-use Rattle.refusals.specs.declared.Fit.{Fit}
-use Rattle.line_colour.specs.declared.entry.Entry.{Entry}
+use Rattle.refusals.specs.declared.Answer.the-variants.{Done, Refused as Unfit}
+use Rattle.refusals.specs.declared.Answer.{Answer}
+use Rattle.line_colour.specs.declared.entry.WindowEntry.{WindowEntry}
 use Rattle.chip_registers.specs.Store.{storeLength}
 use Rattle.line_windows.specs.Table.{tableView}
 use Rattle.line_windows.specs.Inner.{PassedIds}
@@ -22,19 +22,19 @@ use Rattle.line_windows.specs.declared.frame.LineTable.the-variants.{Starts, Re
 use Rattle.line_windows.specs.declared.ids.LookedUp.{LookedUp}
 use Rattle.line_windows.specs.declared.ids.LookedUp.the-variants.{Id, Refused as NoId}
 use Rattle.line_pixels.specs.Cells.{PixelCell, pixelView}
-use Rattle.line_pixels.specs.Colour.{SaidAt, colourOf}
+use Rattle.line_pixels.specs.Colour.{SaidAt, colourOfPixel}
 use Rattle.line_pixels.specs.declared.Screen.{Screen}
 use Rattle.line_setup.specs.Faults.{normalLength, lineFaults}
 use Rattle.line_setup.specs.declared.controls.Controls.{Controls}
 use Rattle.line_setup.specs.declared.setup.Setup.{Setup}
 use Rattle.line.specs.Screen.{screenOf}
 use Rattle.line.specs.Cells.{Cell, Lent, lentOf, view}
-use Rattle.line.specs.Line.{startOf, idAt, entryAt, lineRule}
+use Rattle.line.specs.Line.{startOf, idAt, windowEntryAt, lineRule}
 use Rattle.line.specs.declared.runs.RunAt.{RunAt}
 use Rattle.line.specs.declared.runs.RunAt.the-variants.{Is, Refused as NoRun}
 
 -- the ranges of width and depth
-pub record Sized (controls : Controls) : Type 0 where
+pub record InRange (controls : Controls) : Type 0 where
   pub width-le : controls .width ≤ 2048
   pub at-depth : (controls .depth ≡ 16) ⊎ (controls .depth ≡ 32)
 
@@ -57,32 +57,32 @@ Served controls table start x (NoId refusal) =
     (store : List ℕ) → Over store table (λ memory. run memory (idAt controls (length table) start x) ≡ refused (numbered refusal))
 
 -- the run that starts at pixel x: a window entry that all its pixels have, behind which the look-up may go on, or the pixel's refusal
-abbrev pub RunTold : Controls → List ℕ → List ℕ → ℕ → ℕ → RunAt → Type 0
-RunTold controls store table start x (Is found) =
+abbrev pub RunAnswer : Controls → List ℕ → List ℕ → ℕ → ℕ → RunAt → Type 0
+RunAnswer controls store table start x (Is found) =
     (x < found .end)
     × (found .end ≤ controls .width)
     × (found .end < controls .width → PassedAt controls table start (found .next) (found .end))
     × SaidAt (controls .depth) (found .entry)
-    × Over store table (λ memory. (p : ℕ) → x ≤ p → p < found .end → run memory (entryAt controls (length table) start p) ≡ ok (found .entry))
-RunTold controls store table start x (NoRun refusal) =
-    Over store table (λ memory. run memory (entryAt controls (length table) start x) ≡ refused (numbered refusal))
+    × Over store table (λ memory. (p : ℕ) → x ≤ p → p < found .end → run memory (windowEntryAt controls (length table) start p) ≡ ok (found .entry))
+RunAnswer controls store table start x (NoRun refusal) =
+    Over store table (λ memory. run memory (windowEntryAt controls (length table) start x) ≡ refused (numbered refusal))
 
 -- every pixel has a defined window entry
 abbrev pub Entries : Controls → List ℕ → List ℕ → ℕ → Type 0
 Entries controls store table start =
-    Over store table (λ memory. (p : ℕ) → p < controls .width → (entry : Entry) × (run memory (entryAt controls (length table) start p) ≡ ok entry))
+    Over store table (λ memory. (p : ℕ) → p < controls .width → (entry : WindowEntry) × (run memory (windowEntryAt controls (length table) start p) ≡ ok entry))
 
 -- the first pass's answer: that, or the refusal of the first pixel that has none
-abbrev pub EntriesTold : Controls → List ℕ → List ℕ → ℕ → Fit → Type 0
-EntriesTold controls store table start Yes = Entries controls store table start
-EntriesTold controls store table start (Unfit refusal) =
-    Over store table (λ memory. run memory (each (entryAt controls (length table) start) (controls .width) 0) ≡ refused (numbered refusal))
+abbrev pub EntriesAnswer : Controls → List ℕ → List ℕ → ℕ → Answer → Type 0
+EntriesAnswer controls store table start Done = Entries controls store table start
+EntriesAnswer controls store table start (Unfit refusal) =
+    Over store table (λ memory. run memory (each (windowEntryAt controls (length table) start) (controls .width) 0) ≡ refused (numbered refusal))
 
 -- where the line table starts, or the refusal
-abbrev pub StartTold : Controls → List ℕ → ℕ → LineTable → Type 0
-StartTold controls table y (Starts byte) =
+abbrev pub StartAnswer : Controls → List ℕ → ℕ → LineTable → Type 0
+StartAnswer controls table y (Starts byte) =
     (store : List ℕ) → Over store table (λ memory. run memory (startOf controls (length table) y) ≡ ok byte)
-StartTold controls table y (NoTable refusal) =
+StartAnswer controls table y (NoTable refusal) =
     (store : List ℕ) → Over store table (λ memory. run memory (startOf controls (length table) y) ≡ refused (numbered refusal))
 
 -- a line that may be drawn, with the start of its line table
@@ -92,20 +92,20 @@ pub record Drawable (setup : Setup) (store table : List ℕ) (start : ℕ) : Typ
   pub entries : Entries (setup .controls) store table start
 
 -- what all checks answer: that, or the line's refusal
-abbrev pub CheckedTold : Setup → List ℕ → List ℕ → LineTable → Type 0
-CheckedTold setup store table (Starts byte) = Drawable setup store table byte
-CheckedTold setup store table (NoTable refusal) = Over store table (λ memory. run memory (lineRule setup) ≡ refused (numbered refusal))
+abbrev pub CheckedAnswer : Setup → List ℕ → List ℕ → LineTable → Type 0
+CheckedAnswer setup store table (Starts byte) = Drawable setup store table byte
+CheckedAnswer setup store table (NoTable refusal) = Over store table (λ memory. run memory (lineRule setup) ≡ refused (numbered refusal))
 
 -- the colour of a pixel, by what was found of its window entry
-abbrev pub colourBy : (PixelCell → ℕ) → Screen → ℕ → Outcome Numbered Entry → ℕ
-colourBy memory screen x (ok entry) = value memory (colourOf screen entry x)
+abbrev pub colourBy : (PixelCell → ℕ) → Screen → ℕ → Outcome Numbered WindowEntry → ℕ
+colourBy memory screen x (ok entry) = value memory (colourOfPixel screen entry x)
 colourBy memory screen x (refused refusal) = 0
 
 -- the colour of pixel x of a line whose table starts there
 unfoldable pub colourAt : Controls → ℕ → Lent → ℕ → ℕ → ℕ
 colourAt controls y lent start x =
     colourBy (pixelView (lent .store) (lent .normal) (lent .overlay)) (screenOf controls y) x
-    (run (view lent) (entryAt controls (length (lent .table)) start x))
+    (run (view lent) (windowEntryAt controls (length (lent .table)) start x))
 
 -- what is lent is long enough to draw the active width
 pub record Enough (controls : Controls) (lent : Lent) (output : List ℕ) : Type 0 where

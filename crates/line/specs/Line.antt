@@ -9,14 +9,14 @@ use Rattle.rules.specs.Checked.{checked}
 use Rattle.refusals.specs.Refusal.{numbered}
 use Rattle.refusals.specs.declared.Refusal.the-variants.{UndefinedEntry}
 use Rattle.line_colour.specs.Entry.{decoded}
-use Rattle.line_colour.specs.declared.entry.Entry.{Entry}
+use Rattle.line_colour.specs.declared.entry.WindowEntry.{WindowEntry}
 use Rattle.line_colour.specs.declared.entry.Decoded.{Decoded}
 use Rattle.line_colour.specs.declared.entry.Decoded.the-variants.{Defined, Undefined}
 use Rattle.line_windows.specs.Table.{TableCell}
 use Rattle.line_windows.specs.Frame.{lineTableOf}
 use Rattle.line_windows.specs.Ids.{idOf}
 use Rattle.line_pixels.specs.Cells.{PixelCell}
-use Rattle.line_pixels.specs.Colour.{colourOf}
+use Rattle.line_pixels.specs.Colour.{colourOfPixel}
 use Rattle.line_setup.specs.Faults.{lineFaults}
 use Rattle.line_setup.specs.declared.controls.Controls.{Controls}
 use Rattle.line_setup.specs.declared.setup.Setup.{Setup}
@@ -38,22 +38,22 @@ unfoldable pub idAt : Controls → ℕ → ℕ → ℕ → Rule Numbered Cell �
 idAt controls tableBytes start x = cond (controls .ids) (inTable (idOf tableBytes start x)) (done 0)
 
 -- what a window entry says, or 9 where it is undefined
-abbrev pub definedAt : ℕ → Decoded → Rule Numbered Cell Entry
+abbrev pub definedAt : ℕ → Decoded → Rule Numbered Cell WindowEntry
 definedAt x (Defined entry) = done entry
 definedAt x Undefined = stop (numbered (UndefinedEntry x))
 
 -- a pixel's window entry, whatever covers the pixel: 8 where no line entry serves it, else 9 where its window entry is undefined
-unfoldable pub entryAt : Controls → ℕ → ℕ → ℕ → Rule Numbered Cell Entry
-entryAt controls tableBytes start x = do
+unfoldable pub windowEntryAt : Controls → ℕ → ℕ → ℕ → Rule Numbered Cell WindowEntry
+windowEntryAt controls tableBytes start x = do
   id ← idAt controls tableBytes start x
   word ← get (windowEntry id)
   definedAt x (decoded word (controls .depth))
 
 -- every pixel's, left to right, or the first fault
-unfoldable pub entriesOf : Setup → Rule Numbered Cell (List Entry)
+unfoldable pub entriesOf : Setup → Rule Numbered Cell (List WindowEntry)
 entriesOf setup = do
   start ← startOf (setup .controls) (setup .lengths .table) (setup .y)
-  each (entryAt (setup .controls) (setup .lengths .table) start) (setup .controls .width) 0
+  each (windowEntryAt (setup .controls) (setup .lengths .table) start) (setup .controls .width) 0
 
 -- ---- the second pass: colours, which nothing refuses
 
@@ -62,8 +62,8 @@ abbrev pub inColours : Rule ⊥ PixelCell ℕ → Rule Numbered Cell ℕ
 inColours = within (λ refusal. absurd refusal) ofColour
 
 -- the colours of pixels with these window entries
-unfoldable pub coloursOf : Setup → List Entry → Rule Numbered Cell (List ℕ)
-coloursOf setup entries = eachOf (λ entry x. inColours (colourOf (screenIn setup) entry x)) entries 0
+unfoldable pub coloursOf : Setup → List WindowEntry → Rule Numbered Cell (List ℕ)
+coloursOf setup entries = eachOf (λ entry x. inColours (colourOfPixel (screenIn setup) entry x)) entries 0
 
 -- ---- the line
 

@@ -1,24 +1,19 @@
 // One line of the picture.
 ghost use mathlib.Core.Path.{_≡_};
 ghost use lib.ListN.{length};
+ghost use Rattle.refusals.specs.Refusal.{answerOutcome};
 ghost use Rattle.line.specs.Cells.{lentOf};
-ghost use Rattle.line.specs.Drawn.{told, drawn};
-ghost use Rattle.line.specs.Inner.{StartTold, CheckedTold};
+ghost use Rattle.line.specs.Drawn.{drawn};
+ghost use Rattle.line.specs.Inner.{StartAnswer, CheckedAnswer};
 use crate::passes::check_runs;
 use crate::passes::draw_runs;
 use chip::state::State;
-use refusals::Fit;
-use refusals::Refusal;
 use line_setup::controls::Controls;
 use line_setup::setup::Lengths;
 use line_setup::setup::Setup;
 use line_windows::frame::LineTable;
-
-// What a line answers.
-pub enum Answer {
-    Drawn,
-    Refused(Refusal),
-}
+use refusals::Answer;
+use refusals::Refusal;
 
 // The state that a line hands back, and its answer.
 pub struct Drawn {
@@ -28,7 +23,7 @@ pub struct Drawn {
 
 // Where the line table of line y starts; with window IDs off there is none.
 fn start(controls: Controls, table: &[u8], y: u32) -> LineTable
-    ensures { λ r. ⌜ StartTold controls (now (table .entry)) y r ⌝ }
+    ensures { λ r. ⌜ StartAnswer controls (now (table .entry)) y r ⌝ }
 {
     if controls.ids {
         return line_windows::frame::line_table(table, y);
@@ -39,10 +34,10 @@ fn start(controls: Controls, table: &[u8], y: u32) -> LineTable
 // Every check of a line, pixel by pixel too: where its line table starts, or the refusal.
 fn checked(setup: Setup, store: &[u32], table: &[u8]) -> LineTable
     requires { ⌜ (length (now store) ≡ setup .lengths .store) × (length (now table) ≡ setup .lengths .table) ⌝ }
-    ensures { λ r. ⌜ CheckedTold setup (now (store .entry)) (now (table .entry)) r ⌝ }
+    ensures { λ r. ⌜ CheckedAnswer setup (now (store .entry)) (now (table .entry)) r ⌝ }
 {
-    let fit = setup.fit();
-    if let Fit::Refused(refusal) = fit {
+    let allowed = setup.line_check();
+    if let Answer::Refused(refusal) = allowed {
         return LineTable::Refused(refusal);
     }
     let controls = setup.controls;
@@ -52,8 +47,8 @@ fn checked(setup: Setup, store: &[u32], table: &[u8]) -> LineTable
     };
     let checked = check_runs(controls, store, table, start);
     match checked {
-        Fit::Yes => LineTable::Starts(start),
-        Fit::Refused(refusal) => LineTable::Refused(refusal),
+        Answer::Done => LineTable::Starts(start),
+        Answer::Refused(refusal) => LineTable::Refused(refusal),
     }
 }
 
@@ -67,7 +62,7 @@ pub fn draw(
     overlay: &[u8],
     out: &mut [u32],
 ) -> Drawn
-    ensures { λ r. ⌜ ((r .state, now (out .exit)), told (r .answer)) ≡ drawn state y (lentOf (now (store .entry)) (now (table .entry)) (now (normal .entry)) (now (overlay .entry))) (now (out .entry)) ⌝ }
+    ensures { λ r. ⌜ ((r .state, now (out .exit)), answerOutcome (r .answer)) ≡ drawn state y (lentOf (now (store .entry)) (now (table .entry)) (now (normal .entry)) (now (overlay .entry))) (now (out .entry)) ⌝ }
 {
     let control = state.control;
     let setup = Setup {
@@ -93,7 +88,7 @@ pub fn draw(
             draw_runs(controls, y, store, table, start, normal, overlay, out);
             Drawn {
                 state,
-                answer: Answer::Drawn,
+                answer: Answer::Done,
             }
         }
     }

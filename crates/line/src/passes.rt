@@ -4,31 +4,31 @@ ghost use lib.ListN.{length};
 ghost use Rattle.chip_registers.specs.Store.{storeLength};
 ghost use Rattle.line.specs.Screen.{screenOf};
 ghost use Rattle.line.specs.Cells.{lentOf};
-ghost use Rattle.line.specs.Inner.{Sized, Entries, EntriesTold, Enough, coloured};
+ghost use Rattle.line.specs.Inner.{InRange, Entries, EntriesAnswer, Enough, coloured};
 use crate::runs::RunAt;
 use crate::runs::run_at;
 use line_pixels::Screen;
-use refusals::Fit;
 use line_setup::controls::Controls;
+use refusals::Answer;
 
 // The first pass: whether every pixel has a defined window entry.
-pub(crate) fn check_runs(controls: Controls, store: &[u32], table: &[u8], start: usize) -> Fit
+pub(crate) fn check_runs(controls: Controls, store: &[u32], table: &[u8], start: usize) -> Answer
     requires { ⌜ length (now store) ≡ storeLength ⌝ }
-    ensures { λ r. ⌜ EntriesTold controls (now (store .entry)) (now (table .entry)) start r ⌝ }
+    ensures { λ r. ⌜ EntriesAnswer controls (now (store .entry)) (now (table .entry)) start r ⌝ }
 {
     let mut x = 0;
     let mut from = 0;
     while x < controls.width {
         let run = run_at(controls, store, table, start, from, x);
         match run {
-            RunAt::Refused(refusal) => return Fit::Refused(refusal),
+            RunAt::Refused(refusal) => return Answer::Refused(refusal),
             RunAt::Is(run) => {
                 x = run.end;
                 from = run.next;
             }
         }
     }
-    Fit::Yes
+    Answer::Done
 }
 
 // What the control words say of every pixel of line y.
@@ -57,7 +57,7 @@ pub(crate) fn draw_runs(
     overlay: &[u8],
     out: &mut [u32],
 )
-    requires { ⌜ Sized controls × Enough controls (lentOf (now store) (now table) (now normal) (now overlay)) (now out) × Entries controls (now store) (now table) start ⌝ }
+    requires { ⌜ InRange controls × Enough controls (lentOf (now store) (now table) (now normal) (now overlay)) (now out) × Entries controls (now store) (now table) start ⌝ }
     ensures { λ _. ⌜ now (out .exit) ≡ coloured controls y (lentOf (now (store .entry)) (now (table .entry)) (now (normal .entry)) (now (overlay .entry))) start (now (out .entry)) ⌝ }
 {
     let screen = screen(controls, y);

@@ -3,17 +3,17 @@ ghost use Prim.Native.Nat.{_<_};
 ghost use mathlib.Core.Path.{_≡_};
 ghost use lib.ListN.{length};
 ghost use Rattle.chip_registers.specs.Store.{storeLength};
-ghost use Rattle.line.specs.Inner.{PassedAt, Served, RunTold};
+ghost use Rattle.line.specs.Inner.{PassedAt, Served, RunAnswer};
 use line_colour::entry::Decoded;
-use line_colour::entry::Entry;
-use refusals::Refusal;
+use line_colour::entry::WindowEntry;
 use line_setup::controls::Controls;
-use line_windows::ids::Found;
+use line_windows::ids::FoundId;
 use line_windows::ids::LookedUp;
+use refusals::Refusal;
 
 // What the window entry of a run says, the pixel behind its last, and the line entry to go on from.
 pub struct Run {
-    pub entry: Entry,
+    pub entry: WindowEntry,
     pub end: u32,
     pub next: usize,
 }
@@ -32,7 +32,7 @@ fn id_at(controls: Controls, table: &[u8], start: usize, from: usize, x: u32) ->
     if controls.ids {
         return line_windows::ids::look_up(table, start, from, x);
     }
-    LookedUp::Id(Found {
+    LookedUp::Id(FoundId {
         id: 0,
         last: controls.width - 1,
         next: 0,
@@ -49,7 +49,7 @@ pub(crate) fn run_at(
     x: u32,
 ) -> RunAt
     requires { ⌜ PassedAt controls (now table) start from x × (x < controls .width) × (length (now store) ≡ storeLength) ⌝ }
-    ensures { λ r. ⌜ RunTold controls (now (store .entry)) (now (table .entry)) start x r ⌝ }
+    ensures { λ r. ⌜ RunAnswer controls (now (store .entry)) (now (table .entry)) start x r ⌝ }
 {
     let looked = id_at(controls, table, start, from, x);
     let LookedUp::Id(found) = looked else {

@@ -4,10 +4,10 @@ use mathlib.Core.Path.{_≡_, sym}
 use mathlib.Core.Bool.{true, false}
 use borrow.Author.Tests.{eq-eqb, ne-eqb}
 use Rattle.words.specs.Field.{field}
-use Rattle.line_formats.specs.Table.{numbered, partAt, hasDepth, hasBuffer, hasBank}
+use Rattle.line_formats.specs.Table.{formatOfNumber, partAt, hasDepth, hasBuffer, hasBank}
 use Rattle.line_formats.specs.declared.Format.{Format}
-use Rattle.line_formats.specs.declared.Numbered.the-variants.{Is, Undefined as NoFormat}
-use Rattle.line_colour.specs.Entry.{said, decoded}
+use Rattle.line_formats.specs.declared.NamedFormat.the-variants.{Is, Undefined as NoFormat}
+use Rattle.line_colour.specs.Entry.{definedAs, decoded}
 use Rattle.line_colour.specs.declared.entry.Decoded.the-variants.{Defined, Undefined}
 
 module _ (entry depth : ℕ) where
@@ -18,11 +18,11 @@ module _ (entry depth : ℕ) where
 
   module _ (clear : field entry 12 11 ≡ 0) where
     -- the number names no format
-    pub no-format : numbered (field entry 3 1) ≡ NoFormat → Undefined ≡ decoded entry depth
+    pub no-format : formatOfNumber (field entry 3 1) ≡ NoFormat → Undefined ≡ decoded entry depth
     unfolding decoded
     no-format none = sym (rw (eq-eqb (field entry 12 11) 0 clear, none))
 
-    module _ {format : Format} (named : numbered (field entry 3 1) ≡ Is format) where
+    module _ {format : Format} (named : formatOfNumber (field entry 3 1) ≡ Is format) where
       -- the format is not listed at the depth
       pub no-depth : false ≡ hasDepth (partAt format depth) → Undefined ≡ decoded entry depth
       unfolding decoded
@@ -41,6 +41,6 @@ module _ (entry depth : ℕ) where
           no-bank none = sym (rw (eq-eqb (field entry 12 11) 0 clear, named, ← at-depth, ← in-buffer, ← none))
 
           -- every test is passed
-          pub is-defined : true ≡ hasBank format (field entry 8 4) → Defined (said entry depth format) ≡ decoded entry depth
+          pub is-defined : true ≡ hasBank format (field entry 8 4) → Defined (definedAs entry depth format) ≡ decoded entry depth
           unfolding decoded
           is-defined in-bank = sym (rw (eq-eqb (field entry 12 11) 0 clear, named, ← at-depth, ← in-buffer, ← in-bank))

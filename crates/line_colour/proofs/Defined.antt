@@ -9,22 +9,22 @@ use borrow.Author.Tests.{eqb-true, leb-true}
 use lib.Dec.{eqb, leb, lit<}
 use Rattle.rules.proofs.Cases.{impossible}
 use Rattle.words.specs.Field.{field}
-use Rattle.line_formats.specs.Table.{widthsOf, numbered, rowOf, partAt, hasDepth, hasBuffer, hasBank, valueOf}
+use Rattle.line_formats.specs.Table.{widthsOf, formatOfNumber, rowOf, partAt, hasDepth, hasBuffer, hasBank, valueOf}
 use Rattle.line_formats.specs.declared.Format.{Format}
 use Rattle.line_formats.specs.declared.Format.the-variants.{Index8, Index12, Rgb332, Rgb444, Rgb555, Rgb888}
-use Rattle.line_formats.specs.declared.Numbered.{Numbered}
-use Rattle.line_formats.specs.declared.Numbered.the-variants.{Is, Undefined as NoFormat}
+use Rattle.line_formats.specs.declared.NamedFormat.{NamedFormat}
+use Rattle.line_formats.specs.declared.NamedFormat.the-variants.{Is, Undefined as NoFormat}
 use Rattle.line_formats.specs.declared.Part.the-variants.{Half, Whole, Unlisted}
 use Rattle.line_formats.proofs.Fitting.{part-fitting}
-use Rattle.line_colour.specs.Entry.{lowOf, said, withFormat, decoded}
+use Rattle.line_colour.specs.Entry.{lowOf, definedAs, withFormat, decoded}
 use Rattle.line_colour.specs.Shown.{shownAs, shownOf}
-use Rattle.line_colour.specs.declared.entry.Entry.{Entry}
+use Rattle.line_colour.specs.declared.entry.WindowEntry.{WindowEntry}
 use Rattle.line_colour.specs.declared.entry.Decoded.{Decoded}
 use Rattle.line_colour.specs.declared.entry.Decoded.the-variants.{Defined, Undefined}
 use Rattle.line_colour.specs.declared.entry.Shown.the-variants.{MapEntry}
 
 -- what a defined entry says fits its depth
-pub record Says (depth : ℕ) (entry : Entry) : Type 0 where
+pub record Says (depth : ℕ) (entry : WindowEntry) : Type 0 where
   pub at-depth : (depth ≡ 16) ⊎ (depth ≡ 32)
   pub low-lt : entry .low < 32
   pub within : entry .low + widthsOf (entry .format) .bits ≤ depth
@@ -68,11 +68,11 @@ module _ (depth buffer : ℕ) where
       within-by bits (leb bits (depth / 2)) (leb bits depth) refl refl (rw (part-fitting format depth at) at e)
 
 module _ (number depth : ℕ) where
-  says-by : (format : Format) {entry : Entry} (a b c : Bool)
+  says-by : (format : Format) {entry : WindowEntry} (a b c : Bool)
       → hasDepth (partAt format depth) ≡ a → hasBuffer (partAt format depth) (field number 0 0) ≡ b → hasBank format (field number 8 4) ≡ c
-      → cond (not a) Undefined (cond (not b) Undefined (cond (not c) Undefined (Defined (said number depth format)))) ≡ Defined entry → Says depth entry
+      → cond (not a) Undefined (cond (not b) Undefined (cond (not c) Undefined (Defined (definedAs number depth format)))) ≡ Defined entry → Says depth entry
   says-by format {entry} true true true a b c e =
-      let same : said number depth format ≡ entry = cc in
+      let same : definedAs number depth format ≡ entry = cc in
       let at = depths depth 0 format a in
       rw (← same) (record { at-depth = at; low-lt = low-lt-32 depth (field number 0 0) at; within = lies-within depth (field number 0 0) format at b; in-bank = c })
   says-by format {entry} true true false a b c e = impossible (cc)
@@ -84,19 +84,19 @@ module _ (number depth : ℕ) where
   tested format =
       cond (not (hasDepth (partAt format depth))) Undefined
       (cond (not (hasBuffer (partAt format depth) (field number 0 0))) Undefined
-      (cond (not (hasBank format (field number 8 4))) Undefined (Defined (said number depth format))))
+      (cond (not (hasBank format (field number 8 4))) Undefined (Defined (definedAs number depth format))))
 
-  says-as : {entry : Entry} (named : Numbered) → withFormat named tested ≡ Defined entry → Says depth entry
+  says-as : {entry : WindowEntry} (named : NamedFormat) → withFormat named tested ≡ Defined entry → Says depth entry
   says-as {entry} NoFormat e = impossible (cc)
   says-as {entry} (Is format) e =
       says-by format (hasDepth (partAt format depth)) (hasBuffer (partAt format depth) (field number 0 0)) (hasBank format (field number 8 4)) refl refl refl e
 
-  spare-by : {entry : Entry} (clear : Bool) → cond (not clear) Undefined (withFormat (numbered (field number 3 1)) tested) ≡ Defined entry → Says depth entry
-  spare-by true e = says-as (numbered (field number 3 1)) e
+  spare-by : {entry : WindowEntry} (clear : Bool) → cond (not clear) Undefined (withFormat (formatOfNumber (field number 3 1)) tested) ≡ Defined entry → Says depth entry
+  spare-by true e = says-as (formatOfNumber (field number 3 1)) e
   spare-by {entry} false e = impossible (cc)
 
   -- so it is with what the decoder answers
-  pub defined-says : {entry : Entry} → decoded number depth ≡ Defined entry → Says depth entry
+  pub defined-says : {entry : WindowEntry} → decoded number depth ≡ Defined entry → Says depth entry
   unfolding decoded
   defined-says e = spare-by (eqb (field number 12 11) 0) e
 
@@ -112,5 +112,5 @@ module _ (bank sample : ℕ) {shown : ℕ} where
   entry-below Rgb888 b e = impossible (cc)
 
 -- a defined entry shows no map entry past 4,607
-pub map-entry-below : (depth : ℕ) (entry : Entry) (sample : ℕ) {shown : ℕ} → Says depth entry → shownOf entry sample ≡ MapEntry shown → shown < 4608
+pub map-entry-below : (depth : ℕ) (entry : WindowEntry) (sample : ℕ) {shown : ℕ} → Says depth entry → shownOf entry sample ≡ MapEntry shown → shown < 4608
 map-entry-below depth entry sample says e = entry-below (entry .bank) sample (entry .format) (says .in-bank) e

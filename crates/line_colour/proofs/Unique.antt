@@ -2,7 +2,7 @@
 use Rattle.rules.specs.Unique.{OneAnswer}
 use Rattle.rules.proofs.Unique.{by-equation}
 use Rattle.line_colour.proofs.entry.decode.Reads as decode
-use Rattle.line_colour.proofs.entry.Entry.shown.Reads as shown
+use Rattle.line_colour.proofs.entry.WindowEntry.shown.Reads as shown
 use Rattle.line_colour.proofs.gamma.corrected.Reads as corrected
 
 pub decode-unique : OneAnswer decode.Post

@@ -3,11 +3,11 @@ use Prim.Native.Nat.{ℕ, _/_}
 use mathlib.Core.Bool.{Bool, true, false, cond, not}
 use lib.Dec.{eqb}
 use Rattle.words.specs.Field.{field}
-use Rattle.line_formats.specs.Table.{numbered, partAt, hasDepth, hasBuffer, hasBank}
+use Rattle.line_formats.specs.Table.{formatOfNumber, partAt, hasDepth, hasBuffer, hasBank}
 use Rattle.line_formats.specs.declared.Format.{Format}
-use Rattle.line_formats.specs.declared.Numbered.{Numbered}
-use Rattle.line_formats.specs.declared.Numbered.the-variants.{Is, Undefined as NoFormat}
-use Rattle.line_colour.specs.declared.entry.Entry.{Entry}
+use Rattle.line_formats.specs.declared.NamedFormat.{NamedFormat}
+use Rattle.line_formats.specs.declared.NamedFormat.the-variants.{Is, Undefined as NoFormat}
+use Rattle.line_colour.specs.declared.entry.WindowEntry.{WindowEntry}
 use Rattle.line_colour.specs.declared.entry.Decoded.{Decoded}
 use Rattle.line_colour.specs.declared.entry.Decoded.the-variants.{Defined, Undefined}
 
@@ -32,8 +32,8 @@ abbrev pub lowOf : ℕ → ℕ → ℕ
 lowOf depth buffer = cond (eqb buffer 0) 0 (depth / 2)
 
 -- what a defined entry of this format says; of its buffer the lowest bit
-abbrev pub said : ℕ → ℕ → Format → Entry
-said entry depth format =
+abbrev pub definedAs : ℕ → ℕ → Format → WindowEntry
+definedAs entry depth format =
     record {
       format = format;
       low = lowOf depth (bufferOf entry);
@@ -43,7 +43,7 @@ said entry depth format =
     }
 
 -- what follows from the format that a number names
-abbrev pub withFormat : Numbered → (Format → Decoded) → Decoded
+abbrev pub withFormat : NamedFormat → (Format → Decoded) → Decoded
 withFormat NoFormat next = Undefined
 withFormat (Is format) next = next format
 
@@ -51,11 +51,11 @@ withFormat (Is format) next = next format
 unfoldable pub decoded : ℕ → ℕ → Decoded
 decoded entry depth =
     cond (not (eqb (spareOf entry) 0)) Undefined
-    (withFormat (numbered (formatOf entry)) (λ format.
+    (withFormat (formatOfNumber (formatOf entry)) (λ format.
     cond (not (hasDepth (partAt format depth))) Undefined
     (cond (not (hasBuffer (partAt format depth) (bufferOf entry))) Undefined
     (cond (not (hasBank format (bankOf entry))) Undefined
-    (Defined (said entry depth format))))))
+    (Defined (definedAs entry depth format))))))
 
 -- whether what the decoder answers is a defined entry
 unfoldable pub isDefined : Decoded → Bool

@@ -1,26 +1,26 @@
 -- What a sample shows under a defined entry.
 use Prim.Native.Nat.{ℕ, _+_, _*_}
 use Rattle.words.specs.Field.{bits}
-use Rattle.line_formats.specs.Table.{widthsOf, valueOf, colourIn}
+use Rattle.line_formats.specs.Table.{widthsOf, valueOf, colourInFormat}
 use Rattle.line_formats.specs.declared.Format.{Format}
 use Rattle.line_formats.specs.declared.Format.the-variants.{Index8, Index12, Rgb332, Rgb444, Rgb555, Rgb888}
-use Rattle.line_colour.specs.declared.entry.Entry.{Entry}
+use Rattle.line_colour.specs.declared.entry.WindowEntry.{WindowEntry}
 use Rattle.line_colour.specs.declared.entry.Shown.{Shown}
 use Rattle.line_colour.specs.declared.entry.Shown.the-variants.{MapEntry, Colour}
 
 -- the sample of a pixel: the low bits, as many as the format uses, of the buffer that the entry says
-abbrev pub sampleOf : Entry → ℕ → ℕ
+abbrev pub sampleOf : WindowEntry → ℕ → ℕ
 sampleOf entry pixel = bits pixel (entry .low) (widthsOf (entry .format) .bits)
 
 -- format 0 is map entry 256·bank + value, format 1 is the value; the others are colours
 abbrev pub shownAs : Format → ℕ → ℕ → Shown
 shownAs Index8 bank sample = MapEntry (256 * bank + valueOf Index8 sample)
 shownAs Index12 bank sample = MapEntry (valueOf Index12 sample)
-shownAs Rgb332 bank sample = Colour (colourIn Rgb332 sample)
-shownAs Rgb444 bank sample = Colour (colourIn Rgb444 sample)
-shownAs Rgb555 bank sample = Colour (colourIn Rgb555 sample)
-shownAs Rgb888 bank sample = Colour (colourIn Rgb888 sample)
+shownAs Rgb332 bank sample = Colour (colourInFormat Rgb332 sample)
+shownAs Rgb444 bank sample = Colour (colourInFormat Rgb444 sample)
+shownAs Rgb555 bank sample = Colour (colourInFormat Rgb555 sample)
+shownAs Rgb888 bank sample = Colour (colourInFormat Rgb888 sample)
 
 -- what a sample shows under an entry
-abbrev pub shownOf : Entry → ℕ → Shown
+abbrev pub shownOf : WindowEntry → ℕ → Shown
 shownOf entry sample = shownAs (entry .format) (entry .bank) sample

@@ -5,7 +5,7 @@ ghost use Rattle.line_colour.specs.Shown.{shownOf};
 use line_formats::Format;
 use line_formats::Index8;
 use line_formats::Index12;
-use line_formats::Numbered;
+use line_formats::NamedFormat;
 use line_formats::Rgb332;
 use line_formats::Rgb444;
 use line_formats::Rgb555;
@@ -13,7 +13,7 @@ use line_formats::Rgb888;
 use words::Rgb;
 
 // What a defined entry says: the format, the lowest bit of the buffer, the bank, and two switches.
-pub struct Entry {
+pub struct WindowEntry {
     pub format: Format,
     pub low: u32,
     pub bank: u8,
@@ -23,7 +23,7 @@ pub struct Entry {
 
 // What an entry says, or that it is undefined.
 pub enum Decoded {
-    Defined(Entry),
+    Defined(WindowEntry),
     Undefined,
 }
 
@@ -51,7 +51,7 @@ pub fn decode(entry: u32, depth: u32) -> Decoded
     if spare != 0 {
         return Decoded::Undefined;
     }
-    let Numbered::Is(format) = Format::from_number(number) else {
+    let NamedFormat::Is(format) = Format::from_number(number) else {
         return Decoded::Undefined;
     };
     let part = format.part(depth);
@@ -64,7 +64,7 @@ pub fn decode(entry: u32, depth: u32) -> Decoded
     if !format.has_bank(bank) {
         return Decoded::Undefined;
     }
-    Decoded::Defined(Entry {
+    Decoded::Defined(WindowEntry {
         format,
         low: low_bit(depth, buffer),
         bank: bank as u8,
@@ -73,7 +73,7 @@ pub fn decode(entry: u32, depth: u32) -> Decoded
     })
 }
 
-impl Entry {
+impl WindowEntry {
     // What a sample shows.
     pub fn shown(self, sample: u32) -> Shown
         ensures { λ r. ⌜ r ≡ shownOf self sample ⌝ }

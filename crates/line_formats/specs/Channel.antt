@@ -21,8 +21,8 @@ abbrev pub channel : ℕ → ℕ → ℕ → ℕ
 channel sample low width = widened (bits sample low width) width
 
 -- the colour of a sample whose channels have these widths: red lowest, then green, then blue
-abbrev pub colourOf : ℕ → ℕ → ℕ → ℕ → Rgb
-colourOf sample red green blue =
+abbrev pub colourByWidths : ℕ → ℕ → ℕ → ℕ → Rgb
+colourByWidths sample red green blue =
     record {
       red = channel sample 0 red;
       green = channel sample red green;

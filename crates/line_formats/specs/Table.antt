@@ -6,22 +6,22 @@ use lib.Dec.{eqb, leb}
 use lib.ListN.{getD}
 use Rattle.words.specs.Field.{bits}
 use Rattle.words.specs.declared.Rgb.{Rgb}
-use Rattle.line_formats.specs.Channel.{colourOf}
+use Rattle.line_formats.specs.Channel.{colourByWidths}
 use Rattle.line_formats.specs.declared.Format.{Format}
 use Rattle.line_formats.specs.declared.Format.the-variants.{Index8, Index12, Rgb332, Rgb444, Rgb555, Rgb888}
-use Rattle.line_formats.specs.declared.Numbered.{Numbered}
-use Rattle.line_formats.specs.declared.Numbered.the-variants.{Is, Undefined}
+use Rattle.line_formats.specs.declared.NamedFormat.{NamedFormat}
+use Rattle.line_formats.specs.declared.NamedFormat.the-variants.{Is, Undefined}
 use Rattle.line_formats.specs.declared.Part.{Part}
 use Rattle.line_formats.specs.declared.Part.the-variants.{Half, Whole, Unlisted}
 use Rattle.line_formats.specs.declared.Widths.{Widths}
 
 -- the formats in the order of their numbers
-abbrev pub formats : List Numbered
+abbrev pub formats : List NamedFormat
 formats = Is Index8 ∷ Is Index12 ∷ Is Rgb332 ∷ Is Rgb444 ∷ Is Rgb555 ∷ Is Rgb888 ∷ []
 
 -- every other number is undefined
-abbrev pub numbered : ℕ → Numbered
-numbered number = getD formats number Undefined
+abbrev pub formatOfNumber : ℕ → NamedFormat
+formatOfNumber number = getD formats number Undefined
 
 -- a row of the table: the bits of a sample and of each channel, and what of a pixel is used at depth 16 and at depth 32
 pub record Row : Type 0 where
@@ -76,5 +76,5 @@ abbrev pub valueOf : Format → ℕ → ℕ
 valueOf format sample = bits sample 0 (widthsOf format .bits)
 
 -- the colour of a sample with channels
-abbrev pub colourIn : Format → ℕ → Rgb
-colourIn format sample = colourOf sample (widthsOf format .red) (widthsOf format .green) (widthsOf format .blue)
+abbrev pub colourInFormat : Format → ℕ → Rgb
+colourInFormat format sample = colourByWidths sample (widthsOf format .red) (widthsOf format .green) (widthsOf format .blue)

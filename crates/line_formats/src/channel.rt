@@ -1,7 +1,7 @@
 // Channels of a sample, widened to 8 bits.
 ghost use Prim.Native.Nat.{_≤_, _<_, _^_};
 ghost use mathlib.Core.Path.{_≡_};
-ghost use Rattle.line_formats.specs.Channel.{widened, channel, colourOf};
+ghost use Rattle.line_formats.specs.Channel.{widened, channel, colourByWidths};
 use words::Rgb;
 
 // A channel of a few bits as 8 bits: its bits repeated from the top.
@@ -27,7 +27,7 @@ pub(crate) fn channel(sample: u32, low: u32, width: u32) -> u8
 // The colour of a sample whose channels have these widths, red lowest.
 pub(crate) fn colour(sample: u32, red: u32, green: u32, blue: u32) -> Rgb
     requires { ⌜ (1 ≤ red) × (red ≤ 8) × (1 ≤ green) × (green ≤ 8) × (1 ≤ blue) × (blue ≤ 8) ⌝ }
-    ensures { λ r. ⌜ r ≡ colourOf sample red green blue ⌝ }
+    ensures { λ r. ⌜ r ≡ colourByWidths sample red green blue ⌝ }
 {
     Rgb {
         red: channel(sample, 0, red),

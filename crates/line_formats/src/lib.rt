@@ -3,7 +3,7 @@ mod channel;
 
 ghost use Prim.Native.Nat.{_+_, _*_};
 ghost use mathlib.Core.Path.{_≡_};
-ghost use Rattle.line_formats.specs.Table.{numbered, widthsOf, partAt, hasDepth, hasBuffer, hasBank, valueOf, colourIn};
+ghost use Rattle.line_formats.specs.Table.{formatOfNumber, widthsOf, partAt, hasDepth, hasBuffer, hasBank, valueOf, colourInFormat};
 use words::Rgb;
 
 // Format 0: an 8-bit index within a bank of the map.
@@ -60,7 +60,7 @@ impl Rgb332 {
 
     // The colour of a sample.
     pub fn colour(sample: u32) -> Rgb
-        ensures { λ r. ⌜ r ≡ colourIn Format.Rgb332 sample ⌝ }
+        ensures { λ r. ⌜ r ≡ colourInFormat Format.Rgb332 sample ⌝ }
     {
         channel::colour(sample, Self::RED, Self::GREEN, Self::BLUE)
     }
@@ -80,7 +80,7 @@ impl Rgb444 {
 
     // The colour of a sample.
     pub fn colour(sample: u32) -> Rgb
-        ensures { λ r. ⌜ r ≡ colourIn Format.Rgb444 sample ⌝ }
+        ensures { λ r. ⌜ r ≡ colourInFormat Format.Rgb444 sample ⌝ }
     {
         channel::colour(sample, Self::RED, Self::GREEN, Self::BLUE)
     }
@@ -100,7 +100,7 @@ impl Rgb555 {
 
     // The colour of a sample.
     pub fn colour(sample: u32) -> Rgb
-        ensures { λ r. ⌜ r ≡ colourIn Format.Rgb555 sample ⌝ }
+        ensures { λ r. ⌜ r ≡ colourInFormat Format.Rgb555 sample ⌝ }
     {
         channel::colour(sample, Self::RED, Self::GREEN, Self::BLUE)
     }
@@ -120,7 +120,7 @@ impl Rgb888 {
 
     // The colour of a sample.
     pub fn colour(sample: u32) -> Rgb
-        ensures { λ r. ⌜ r ≡ colourIn Format.Rgb888 sample ⌝ }
+        ensures { λ r. ⌜ r ≡ colourInFormat Format.Rgb888 sample ⌝ }
     {
         channel::colour(sample, Self::RED, Self::GREEN, Self::BLUE)
     }
@@ -176,24 +176,24 @@ pub enum Format {
 }
 
 // What a format's number names.
-pub enum Numbered {
+pub enum NamedFormat {
     Is(Format),
     Undefined,
 }
 
 impl Format {
     // The format of an entry's number.
-    pub fn from_number(number: u32) -> Numbered
-        ensures { λ r. ⌜ r ≡ numbered number ⌝ }
+    pub fn from_number(number: u32) -> NamedFormat
+        ensures { λ r. ⌜ r ≡ formatOfNumber number ⌝ }
     {
         match number {
-            0 => Numbered::Is(Format::Index8),
-            1 => Numbered::Is(Format::Index12),
-            2 => Numbered::Is(Format::Rgb332),
-            3 => Numbered::Is(Format::Rgb444),
-            4 => Numbered::Is(Format::Rgb555),
-            5 => Numbered::Is(Format::Rgb888),
-            _ => Numbered::Undefined,
+            0 => NamedFormat::Is(Format::Index8),
+            1 => NamedFormat::Is(Format::Index12),
+            2 => NamedFormat::Is(Format::Rgb332),
+            3 => NamedFormat::Is(Format::Rgb444),
+            4 => NamedFormat::Is(Format::Rgb555),
+            5 => NamedFormat::Is(Format::Rgb888),
+            _ => NamedFormat::Undefined,
         }
     }
 

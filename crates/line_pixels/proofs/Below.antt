@@ -11,16 +11,16 @@ use Rattle.rules.proofs.Value.{value-then}
 use Rattle.words.specs.Field.{bits}
 use Rattle.words.specs.Channels.{channelsOf, wordOf}
 use Rattle.words.specs.declared.Rgb.{Rgb}
-use Rattle.line_formats.specs.Channel.{channel, colourOf as ofSample}
+use Rattle.line_formats.specs.Channel.{channel, colourByWidths}
 use Rattle.line_formats.specs.declared.Format.{Format}
 use Rattle.line_formats.specs.declared.Format.the-variants.{Index8, Index12, Rgb332, Rgb444, Rgb555, Rgb888}
 use Rattle.line_formats.proofs.Widening.{widened-lt}
 use Rattle.line_colour.specs.Shown.{shownAs}
-use Rattle.line_colour.specs.declared.entry.Entry.{Entry}
+use Rattle.line_colour.specs.declared.entry.WindowEntry.{WindowEntry}
 use Rattle.chip_registers.specs.Kept.{only}
 use Rattle.line_pixels.specs.Cells.{Channel, inRed, inGreen, inBlue, channelIn, PixelCell, pixelView}
 use Rattle.line_pixels.specs.Cursor.{cursorAt}
-use Rattle.line_pixels.specs.Colour.{throughGamma, shownColour, normalAt, plainAt, overlaid, overlayAt, underCursor, cursorShown, colourOf}
+use Rattle.line_pixels.specs.Colour.{throughGamma, shownColour, normalAt, plainAt, overlaid, overlayAt, underCursor, cursorShown, colourOfPixel}
 use Rattle.line_pixels.specs.declared.Screen.{Screen}
 
 -- 24 kept bits
@@ -42,9 +42,9 @@ channel-below : (sample low width : ℕ) → 1 ≤ width → channel sample low 
 channel-below sample low width some = widened-lt (bits sample low width) width some (mod-lt (sample / 2 ^ low) (pow-pos width))
 
 -- so a sample's colour has 24
-sample-below : (sample red green blue : ℕ) → 1 ≤ red → 1 ≤ green → 1 ≤ blue → wordOf (ofSample sample red green blue) < 2 ^ 24
+sample-below : (sample red green blue : ℕ) → 1 ≤ red → 1 ≤ green → 1 ≤ blue → wordOf (colourByWidths sample red green blue) < 2 ^ 24
 sample-below sample red green blue r g b =
-    word-below (ofSample sample red green blue) (channel-below sample 0 red r) (channel-below sample red green g) (channel-below sample (red + green) blue b)
+    word-below (colourByWidths sample red green blue) (channel-below sample 0 red r) (channel-below sample red green g) (channel-below sample (red + green) blue b)
 
 module _ (store normal overlay : List ℕ) where
   -- what lent memory holds
@@ -83,7 +83,7 @@ module _ (store normal overlay : List ℕ) where
   shown-below Rgb555 bank sample = sample-below sample 5 5 5 (lit≤ tt) (lit≤ tt) (lit≤ tt)
   shown-below Rgb888 bank sample = sample-below sample 8 8 8 (lit≤ tt) (lit≤ tt) (lit≤ tt)
 
-  module _ (screen : Screen) (entry : Entry) (x : ℕ) where
+  module _ (screen : Screen) (entry : WindowEntry) (x : ℕ) where
     -- a normal colour
     plain-below : Below (plainAt (screen .depth) entry x)
     unfolding plainAt normalAt
@@ -105,6 +105,6 @@ module _ (store normal overlay : List ℕ) where
     cursor-below number = gamma-below _ _ (kept-below _)
 
     -- the colour of a pixel
-    pub colour-below : value (pixelView store normal overlay) (colourOf screen entry x) < 2 ^ 24
-    unfolding colourOf
+    pub colour-below : value (pixelView store normal overlay) (colourOfPixel screen entry x) < 2 ^ 24
+    unfolding colourOfPixel
     colour-below = then-below (cursorAt screen x) _ (λ number. either-below (eqb number 0) _ _ under-below (cursor-below number))

@@ -11,7 +11,7 @@ use Rattle.line_formats.specs.declared.Format.{Format}
 use Rattle.line_formats.specs.declared.Format.the-variants.{Index8, Index12, Rgb332, Rgb444, Rgb555, Rgb888}
 use Rattle.line_formats.proofs.Format.{the-type}
 use Rattle.line_colour.specs.Shown.{sampleOf, shownAs, shownOf}
-use Rattle.line_colour.specs.declared.entry.Entry.{Entry}
+use Rattle.line_colour.specs.declared.entry.WindowEntry.{WindowEntry}
 use Rattle.line_colour.specs.declared.entry.Shown.the-variants.{MapEntry}
 use Rattle.line_pixels.specs.Sampling.{isIndex, baseOf}
 
@@ -39,6 +39,6 @@ shown-by Rgb555 bank above is = absurd (false≢true is)
 shown-by Rgb888 bank above is = absurd (false≢true is)
 
 -- an index shows the map entry that is so far from the base
-pub index-shown : (entry : Entry) (pixel : ℕ) → isIndex (entry .format) ≡ true
+pub index-shown : (entry : WindowEntry) (pixel : ℕ) → isIndex (entry .format) ≡ true
     → shownOf entry (sampleOf entry pixel) ≡ MapEntry (baseOf (entry .format) (entry .bank) + sampleOf entry pixel)
 index-shown entry pixel is = shown-by (entry .format) (entry .bank) (pixel / 2 ^ (entry .low)) is

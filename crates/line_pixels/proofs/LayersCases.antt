@@ -12,15 +12,15 @@ use Rattle.words.specs.Channels.{wordOf}
 use Rattle.words.specs.declared.Rgb.{Rgb}
 use Rattle.line_formats.specs.Table.{widthsOf}
 use Rattle.line_colour.specs.Shown.{shownOf}
-use Rattle.line_colour.specs.declared.entry.Entry.{Entry}
+use Rattle.line_colour.specs.declared.entry.WindowEntry.{WindowEntry}
 use Rattle.line_colour.specs.declared.entry.Shown.{Shown}
 use Rattle.line_colour.specs.declared.entry.Shown.the-variants.{MapEntry, Colour}
 use Rattle.line_pixels.specs.Cells.{PixelCell, cursorColour, overlayByte, sample, mapEntry}
 use Rattle.line_pixels.specs.Cursor.{cursorAt}
-use Rattle.line_pixels.specs.Colour.{ofCursor, ofOverlay, ofNormal, skipsGamma, throughGamma, shownColour, normalAt, plainAt, overlayColours, overlaid, overlayCounts, overlayAt, underCursor, cursorShown, colourOf}
+use Rattle.line_pixels.specs.Colour.{ofCursor, ofOverlay, ofNormal, skipsGamma, throughGamma, shownColour, normalAt, plainAt, overlayColours, overlaid, overlayCounts, overlayAt, underCursor, cursorShown, colourOfPixel}
 use Rattle.line_pixels.specs.declared.Screen.{Screen}
 
-module _ (memory : PixelCell → ℕ) (depth : ℕ) (entry : Entry) (x : ℕ) {word : ℕ} where
+module _ (memory : PixelCell → ℕ) (depth : ℕ) (entry : WindowEntry) (x : ℕ) {word : ℕ} where
   -- the normal colour by what the sample shows
   normal-of : {shown : Shown} → shownOf entry (memory (sample depth x (entry .low) (widthsOf (entry .format) .bits))) ≡ shown
       → word ≡ value memory (shownColour shown) → word ≡ value memory (normalAt depth entry x)
@@ -43,7 +43,7 @@ module _ (memory : PixelCell → ℕ) (depth : ℕ) (entry : Entry) (x : ℕ) {w
   unfolding plainAt
   plain-of-normal of is = rw (value-then memory (normalAt depth entry x) (throughGamma (skipsGamma ofNormal entry)), ← of) is
 
-module _ (memory : PixelCell → ℕ) (screen : Screen) (entry : Entry) (x : ℕ) where
+module _ (memory : PixelCell → ℕ) (screen : Screen) (entry : WindowEntry) (x : ℕ) where
   -- overlay counts
   pub overlay-byte : overlayCounts screen entry ≡ true → memory (overlayByte x) ≡ value memory (overlayAt screen entry x)
   unfolding overlayAt
@@ -68,23 +68,23 @@ module _ (memory : PixelCell → ℕ) (screen : Screen) (entry : Entry) (x : ℕ
 
   module _ {number word : ℕ} (of : number ≡ value memory (cursorAt screen x)) where
     -- no cursor colour shows
-    pub colour-under : number ≡ 0 → word ≡ value memory (underCursor screen entry x) → word ≡ value memory (colourOf screen entry x)
-    unfolding colourOf
+    pub colour-under : number ≡ 0 → word ≡ value memory (underCursor screen entry x) → word ≡ value memory (colourOfPixel screen entry x)
+    unfolding colourOfPixel
     colour-under none is = is ∙ sym (value-then memory (cursorAt screen x) _ ∙ rw (← of, eq-eqb number 0 none))
 
     -- one does
     pub colour-of-cursor : (number ≡ 0 → ⊥) → {stored : ℕ} → stored ≡ memory (cursorColour number)
-        → word ≡ value memory (throughGamma (skipsGamma ofCursor entry) stored) → word ≡ value memory (colourOf screen entry x)
-    unfolding colourOf cursorShown
+        → word ≡ value memory (throughGamma (skipsGamma ofCursor entry) stored) → word ≡ value memory (colourOfPixel screen entry x)
+    unfolding colourOfPixel cursorShown
     colour-of-cursor some holds is = rw holds at is ∙ sym (value-then memory (cursorAt screen x) _ ∙ rw (← of, ne-eqb number 0 some))
 
   -- where neither cursor nor overlay shows, the colour is the plain one
   pub colour-plain : overlayCounts screen entry ≡ false → value memory (cursorAt screen x) ≡ 0
-      → value memory (plainAt (screen .depth) entry x) ≡ value memory (colourOf screen entry x)
+      → value memory (plainAt (screen .depth) entry x) ≡ value memory (colourOfPixel screen entry x)
   colour-plain none clear = colour-under (sym clear) refl (under-clear (overlay-none none) refl refl)
 
   -- where it is at each pixel of a run, a run of plain colours is right
   pub run-plain : (count : ℕ) (room : List ℕ) {out : List ℕ}
-      → ((p : ℕ) → x ≤ p → p < x + count → value memory (plainAt (screen .depth) entry p) ≡ value memory (colourOf screen entry p))
-      → out ≡ filled (λ p. value memory (plainAt (screen .depth) entry p)) x room count → out ≡ filled (λ p. value memory (colourOf screen entry p)) x room count
+      → ((p : ℕ) → x ≤ p → p < x + count → value memory (plainAt (screen .depth) entry p) ≡ value memory (colourOfPixel screen entry p))
+      → out ≡ filled (λ p. value memory (plainAt (screen .depth) entry p)) x room count → out ≡ filled (λ p. value memory (colourOfPixel screen entry p)) x room count
   run-plain count room same is = is ∙ filled-same _ _ x room count same

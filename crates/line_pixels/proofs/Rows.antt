@@ -4,12 +4,12 @@ use mathlib.Core.Path.{_≡_}
 use mathlib.Core.Logic.{_⊎_, ⊎-elim}
 use native.Mathlib.Nat.{le-trans, mul-le-mul-right}
 use native.Mathlib.Omega.{arith}
-use Rattle.line_colour.specs.declared.entry.Entry.{Entry}
+use Rattle.line_colour.specs.declared.entry.WindowEntry.{WindowEntry}
 use Rattle.line_colour.proofs.Defined.{Says, defined-says}
 use Rattle.line_pixels.specs.Colour.{SaidAt}
 
 -- what an entry says that some window entry says
-pub said-says : (depth : ℕ) (entry : Entry) → SaidAt depth entry → Says depth entry
+pub said-says : (depth : ℕ) (entry : WindowEntry) → SaidAt depth entry → Says depth entry
 said-says depth entry said = defined-says (said .0) depth (said .1)
 
 module _ (depth x : ℕ) {long : ℕ} where

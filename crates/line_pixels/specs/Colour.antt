@@ -8,7 +8,7 @@ use Rattle.words.specs.Channels.{channelsOf, wordOf}
 use Rattle.line_formats.specs.Table.{widthsOf}
 use Rattle.line_colour.specs.Entry.{decoded}
 use Rattle.line_colour.specs.Shown.{shownOf}
-use Rattle.line_colour.specs.declared.entry.Entry.{Entry}
+use Rattle.line_colour.specs.declared.entry.WindowEntry.{WindowEntry}
 use Rattle.line_colour.specs.declared.entry.Decoded.the-variants.{Defined}
 use Rattle.line_colour.specs.declared.entry.Shown.{Shown}
 use Rattle.line_colour.specs.declared.entry.Shown.the-variants.{MapEntry, Colour}
@@ -17,7 +17,7 @@ use Rattle.line_pixels.specs.Cursor.{cursorAt}
 use Rattle.line_pixels.specs.declared.Screen.{Screen}
 
 -- an entry is what some window entry says at a depth
-abbrev pub SaidAt : ℕ → Entry → Type 0
+abbrev pub SaidAt : ℕ → WindowEntry → Type 0
 SaidAt depth entry = (word : ℕ) × (decoded word depth ≡ Defined entry)
 
 -- the layers that a pixel's colour can come from
@@ -25,7 +25,7 @@ pub data Layer : Type 0 where
   ofCursor ofOverlay ofNormal : Layer
 
 -- a cursor colour is shown as it is stored, a normal or an overlay colour where the window entry bypasses gamma
-abbrev pub skipsGamma : Layer → Entry → Bool
+abbrev pub skipsGamma : Layer → WindowEntry → Bool
 skipsGamma ofCursor entry = true
 skipsGamma ofOverlay entry = entry .bypass
 skipsGamma ofNormal entry = entry .bypass
@@ -48,13 +48,13 @@ shownColour (MapEntry entry) = get (mapEntry entry)
 shownColour (Colour colour) = done (wordOf colour)
 
 -- the normal colour of a pixel: the used bits of the chosen buffer, and what they show
-unfoldable pub normalAt : ℕ → Entry → ℕ → Rule ⊥ PixelCell ℕ
+unfoldable pub normalAt : ℕ → WindowEntry → ℕ → Rule ⊥ PixelCell ℕ
 normalAt depth entry x = do
   used ← get (sample depth x (entry .low) (widthsOf (entry .format) .bits))
   shownColour (shownOf entry used)
 
 -- that colour through gamma
-unfoldable pub plainAt : ℕ → Entry → ℕ → Rule ⊥ PixelCell ℕ
+unfoldable pub plainAt : ℕ → WindowEntry → ℕ → Rule ⊥ PixelCell ℕ
 plainAt depth entry x = normalAt depth entry x >>= throughGamma (skipsGamma ofNormal entry)
 
 -- the map entry of overlay byte 0: the overlay colours stand from it on, that of a byte as many entries behind it
@@ -62,29 +62,29 @@ abbrev pub overlayColours : ℕ
 overlayColours = 4352
 
 -- the colour of an overlay byte, through gamma
-unfoldable pub overlaid : Entry → ℕ → Rule ⊥ PixelCell ℕ
+unfoldable pub overlaid : WindowEntry → ℕ → Rule ⊥ PixelCell ℕ
 overlaid entry byte = get (mapEntry (overlayColours + byte)) >>= throughGamma (skipsGamma ofOverlay entry)
 
 -- overlay is looked at where the control word and the window entry both say so
-abbrev pub overlayCounts : Screen → Entry → Bool
+abbrev pub overlayCounts : Screen → WindowEntry → Bool
 overlayCounts screen entry = screen .overlay && entry .overlay
 
 -- the overlay byte of a pixel, 0 where overlay doesn't count
-unfoldable pub overlayAt : Screen → Entry → ℕ → Rule ⊥ PixelCell ℕ
+unfoldable pub overlayAt : Screen → WindowEntry → ℕ → Rule ⊥ PixelCell ℕ
 overlayAt screen entry x = cond (overlayCounts screen entry) (get (overlayByte x)) (done 0)
 
 -- what shows where the cursor doesn't: overlay, or the normal colour where its byte is 0
-unfoldable pub underCursor : Screen → Entry → ℕ → Rule ⊥ PixelCell ℕ
+unfoldable pub underCursor : Screen → WindowEntry → ℕ → Rule ⊥ PixelCell ℕ
 underCursor screen entry x = do
   byte ← overlayAt screen entry x
   cond (eqb byte 0) (plainAt (screen .depth) entry x) (overlaid entry byte)
 
 -- a cursor colour
-unfoldable pub cursorShown : Entry → ℕ → Rule ⊥ PixelCell ℕ
+unfoldable pub cursorShown : WindowEntry → ℕ → Rule ⊥ PixelCell ℕ
 cursorShown entry number = get (cursorColour number) >>= throughGamma (skipsGamma ofCursor entry)
 
 -- the colour of a pixel: the cursor's where one shows
-unfoldable pub colourOf : Screen → Entry → ℕ → Rule ⊥ PixelCell ℕ
-colourOf screen entry x = do
+unfoldable pub colourOfPixel : Screen → WindowEntry → ℕ → Rule ⊥ PixelCell ℕ
+colourOfPixel screen entry x = do
   number ← cursorAt screen x
   cond (eqb number 0) (underCursor screen entry x) (cursorShown entry number)

@@ -6,10 +6,10 @@ use mathlib.Core.Logic.{_⊎_}
 use mathlib.Core.List.{List}
 use Rattle.rules.specs.Rule.{Rule, value}
 use Rattle.rules.specs.Lists.{filled}
-use Rattle.line_colour.specs.declared.entry.Entry.{Entry}
+use Rattle.line_colour.specs.declared.entry.WindowEntry.{WindowEntry}
 use Rattle.line_pixels.specs.Cells.{PixelCell, pixelView}
 use Rattle.line_pixels.specs.Cursor.{cursorAt}
-use Rattle.line_pixels.specs.Colour.{plainAt, colourOf}
+use Rattle.line_pixels.specs.Colour.{plainAt, colourOfPixel}
 use Rattle.line_pixels.specs.declared.Screen.{Screen}
 
 -- a rule has this value, whatever the rows hold
@@ -35,11 +35,11 @@ NoneNear screen x count near =
     near ≡ false → (p : ℕ) → x ≤ p → p < x + count → (memory : PixelCell → ℕ) → value memory (cursorAt screen p) ≡ 0
 
 -- a test that passes only where the plain colour shows at each of `count` pixels from x on
-abbrev pub OnlyPlain : Screen → Entry → ℕ → ℕ → Bool → Type 0
+abbrev pub OnlyPlain : Screen → WindowEntry → ℕ → ℕ → Bool → Type 0
 OnlyPlain screen entry x count plain =
-    plain ≡ true → (p : ℕ) → x ≤ p → p < x + count → (memory : PixelCell → ℕ) → value memory (plainAt (screen .depth) entry p) ≡ value memory (colourOf screen entry p)
+    plain ≡ true → (p : ℕ) → x ≤ p → p < x + count → (memory : PixelCell → ℕ) → value memory (plainAt (screen .depth) entry p) ≡ value memory (colourOfPixel screen entry p)
 
 -- a run filled with plain colours, whatever the overlay row holds
-abbrev pub FilledPlain : ℕ → Entry → List ℕ → List ℕ → ℕ → ℕ → List ℕ → List ℕ → Type 0
+abbrev pub FilledPlain : ℕ → WindowEntry → List ℕ → List ℕ → ℕ → ℕ → List ℕ → List ℕ → Type 0
 FilledPlain depth entry store normal x count before after =
     (overlay : List ℕ) → after ≡ filled (λ p. value (pixelView store normal overlay) (plainAt depth entry p)) x before count

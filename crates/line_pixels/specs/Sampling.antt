@@ -4,7 +4,7 @@ use mathlib.Core.Bool.{Bool, true, false}
 use Rattle.line_formats.specs.Table.{widthsOf}
 use Rattle.line_formats.specs.declared.Format.{Format}
 use Rattle.line_formats.specs.declared.Format.the-variants.{Index8, Index12, Rgb332, Rgb444, Rgb555, Rgb888}
-use Rattle.line_colour.specs.declared.entry.Entry.{Entry}
+use Rattle.line_colour.specs.declared.entry.WindowEntry.{WindowEntry}
 use Rattle.line_pixels.specs.declared.sampling.Sampling.{Sampling}
 
 -- samples of formats 0 and 1 are indices of the colour map
@@ -26,7 +26,7 @@ baseOf Rgb555 bank = 0
 baseOf Rgb888 bank = 0
 
 -- how samples are taken and shown under an entry
-abbrev pub samplingOf : Entry → Sampling
+abbrev pub samplingOf : WindowEntry → Sampling
 samplingOf entry =
     record {
       entry = entry;

@@ -7,17 +7,17 @@ ghost use Rattle.rules.specs.Rule.{value};
 ghost use Rattle.rules.specs.Lists.{filled};
 ghost use Rattle.chip_registers.specs.Store.{storeLength};
 ghost use Rattle.line_pixels.specs.Cells.{pixelView};
-ghost use Rattle.line_pixels.specs.Colour.{SaidAt, overlayCounts, colourOf};
+ghost use Rattle.line_pixels.specs.Colour.{SaidAt, overlayCounts, colourOfPixel};
 ghost use Rattle.line_pixels.specs.Inner.{OnlyPlain, FilledPlain};
 use crate::Screen;
 use crate::layers::plain_at;
 use crate::sampling::Sampling;
-use line_colour::entry::Entry;
+use line_colour::entry::WindowEntry;
 
 // A run where neither cursor nor overlay shows.
 fn fill_plain(
     depth: u32,
-    entry: Entry,
+    entry: WindowEntry,
     store: &[u32],
     normal: &[u8],
     x: usize,
@@ -37,7 +37,7 @@ fn fill_plain(
 
 impl Screen {
     // Whether neither cursor nor overlay shows at any of so many pixels from x on: then the plain colour does.
-    fn only_plain(self, entry: Entry, x: usize, count: usize) -> bool
+    fn only_plain(self, entry: WindowEntry, x: usize, count: usize) -> bool
         requires { ⌜ x + count ≤ 65536 ⌝ }
         ensures { λ r. ⌜ OnlyPlain self entry x count r ⌝ }
     {
@@ -50,7 +50,7 @@ impl Screen {
     // A run of so many pixels from x on.
     pub fn fill(
         self,
-        entry: Entry,
+        entry: WindowEntry,
         store: &[u32],
         normal: &[u8],
         overlay: &[u8],
@@ -59,7 +59,7 @@ impl Screen {
         out: &mut [u32],
     )
         requires { ⌜ SaidAt (self .depth) entry × (length (now store) ≡ storeLength) × (x + count ≤ 65536) × ((x + count) * (self .depth / 8) ≤ length (now normal)) × (overlayCounts self entry ≡ true → x + count ≤ length (now overlay)) × (count ≤ length (now out)) ⌝ }
-        ensures { λ _. ⌜ now (out .exit) ≡ filled (λ p. value (pixelView (now (store .entry)) (now (normal .entry)) (now (overlay .entry))) (colourOf self entry p)) x (now (out .entry)) count ⌝ }
+        ensures { λ _. ⌜ now (out .exit) ≡ filled (λ p. value (pixelView (now (store .entry)) (now (normal .entry)) (now (overlay .entry))) (colourOfPixel self entry p)) x (now (out .entry)) count ⌝ }
     {
         if self.only_plain(entry, x, count) {
             fill_plain(self.depth, entry, store, normal, x, count, out);

@@ -7,16 +7,16 @@ ghost use lib.ListN.{length};
 ghost use Rattle.rules.specs.Rule.{get, value};
 ghost use Rattle.chip_registers.specs.Store.{storeLength};
 ghost use Rattle.line_pixels.specs.Cells.{mapEntry, pixelWord, pixelView};
-ghost use Rattle.line_pixels.specs.Colour.{SaidAt, throughGamma, normalAt, plainAt, overlayCounts, overlayAt, underCursor, colourOf};
+ghost use Rattle.line_pixels.specs.Colour.{SaidAt, throughGamma, normalAt, plainAt, overlayCounts, overlayAt, underCursor, colourOfPixel};
 ghost use Rattle.line_pixels.specs.Sampling.{samplingOf};
 ghost use Rattle.line_pixels.specs.Inner.{OverStore, OverNormal, OverOverlay};
 use crate::Screen;
 use crate::sampling::Sampling;
 use crate::store::stored;
-use line_colour::entry::Entry;
-use line_colour::entry::Shown;
 use chip_registers::Block;
 use chip_registers::Register;
+use line_colour::entry::Shown;
+use line_colour::entry::WindowEntry;
 use words::Rgb;
 
 // A pixel of the normal row, all bits of it.
@@ -88,14 +88,14 @@ pub(crate) fn plain_at(
 
 impl Screen {
     // Whether overlay is looked at: the control word and the entry both say so.
-    pub(crate) fn overlay_counts(self, entry: Entry) -> bool
+    pub(crate) fn overlay_counts(self, entry: WindowEntry) -> bool
         ensures { λ r. ⌜ r ≡ overlayCounts self entry ⌝ }
     {
         if self.overlay { entry.overlay } else { false }
     }
 
     // The overlay byte of a pixel, 0 where overlay doesn't count.
-    fn overlay_at(self, entry: Entry, overlay: &[u8], x: usize) -> u32
+    fn overlay_at(self, entry: WindowEntry, overlay: &[u8], x: usize) -> u32
         requires { ⌜ (overlayCounts self entry ≡ true → x < length (now overlay)) ⌝ }
         ensures { λ r. ⌜ OverOverlay (now (overlay .entry)) (overlayAt self entry x) r × (r < 256) ⌝ }
     {
@@ -108,7 +108,7 @@ impl Screen {
     // The colour of a pixel where the cursor doesn't show.
     fn under_cursor(
         self,
-        entry: Entry,
+        entry: WindowEntry,
         store: &[u32],
         normal: &[u8],
         overlay: &[u8],
@@ -127,14 +127,14 @@ impl Screen {
     // The colour of a pixel.
     pub(crate) fn colour_of(
         self,
-        entry: Entry,
+        entry: WindowEntry,
         store: &[u32],
         normal: &[u8],
         overlay: &[u8],
         x: usize,
     ) -> u32
         requires { ⌜ SaidAt (self .depth) entry × (length (now store) ≡ storeLength) × ((x + 1) * (self .depth / 8) ≤ length (now normal)) × (overlayCounts self entry ≡ true → x < length (now overlay)) ⌝ }
-        ensures { λ r. ⌜ r ≡ value (pixelView (now (store .entry)) (now (normal .entry)) (now (overlay .entry))) (colourOf self entry x) ⌝ }
+        ensures { λ r. ⌜ r ≡ value (pixelView (now (store .entry)) (now (normal .entry)) (now (overlay .entry))) (colourOfPixel self entry x) ⌝ }
     {
         let number = self.cursor_at(store, x);
         if number == 0 {

@@ -8,7 +8,7 @@ use Rattle.rules.specs.Rule.{Outcome, ok, refused, run}
 use Rattle.rules.specs.Faults.{Numbered, placeIn}
 use Rattle.rules.specs.Checked.{verdict}
 use Rattle.rules.proofs.Cases.{impossible}
-use Rattle.line_colour.specs.declared.entry.Entry.{Entry}
+use Rattle.line_colour.specs.declared.entry.WindowEntry.{WindowEntry}
 use Rattle.line_windows.specs.Table.{TableCell, yend, lineTable, xend, windowId}
 use Rattle.line_pixels.specs.Cells.{PixelCell}
 use Rattle.line_setup.specs.Faults.{lineFaults}
@@ -59,7 +59,7 @@ module _ (setup : Setup) (lent : Lent) where
   placed : {refusal : Numbered} → lineOf setup lent ≡ refused refusal → Placed refusal
   placed {refusal} e = by-verdict (verdict (lineFaults setup)) refl
     where
-      by-entries : verdict (lineFaults setup) ≡ ok tt → (outcome : Outcome Numbered (List Entry)) → run (view lent) (entriesOf setup) ≡ outcome → Placed refusal
+      by-entries : verdict (lineFaults setup) ≡ ok tt → (outcome : Outcome Numbered (List WindowEntry)) → run (view lent) (entriesOf setup) ≡ outcome → Placed refusal
       by-entries fine (ok entries) found = impossible (cc (answered-drawn setup lent fine found .1))
       by-entries fine (refused other) found =
           let same : other ≡ refusal = cc (answered-refused setup lent fine found) in placed-entries (rw same at found)

@@ -8,11 +8,11 @@ use Rattle.rules.specs.Faults.{Numbered}
 use Rattle.rules.specs.Checked.{verdict}
 use Rattle.rules.proofs.Then.{run-ok}
 use Rattle.rules.proofs.Value.{run-within-value}
-use Rattle.line_colour.specs.declared.entry.Entry.{Entry}
+use Rattle.line_colour.specs.declared.entry.WindowEntry.{WindowEntry}
 use Rattle.line_windows.specs.Table.{yend, lineTable, xend, windowId}
 use Rattle.line_windows.specs.Ids.{entryByte}
 use Rattle.line_pixels.specs.Cells.{PixelCell}
-use Rattle.line_pixels.specs.Colour.{colourOf}
+use Rattle.line_pixels.specs.Colour.{colourOfPixel}
 use Rattle.line_setup.specs.Faults.{lineFaults}
 use Rattle.line_setup.specs.declared.setup.Setup.{Setup}
 use Rattle.line.specs.Screen.{screenIn}
@@ -54,15 +54,15 @@ module _ (setup : Setup) (lent : Lent) where
 
   -- ---- a line that is drawn
 
-  module _ {entries : List Entry} (e : run (view lent) (entriesOf setup) ≡ ok entries) where
+  module _ {entries : List WindowEntry} (e : run (view lent) (entriesOf setup) ≡ ok entries) where
     -- what is listed of a pixel's colour, the second pass reads
     pixel-listed : {cell : PixelCell} → PixelListed setup lent cell → Among (ofColour cell) (reads (view lent) (coloursOf setup entries))
     unfolding entriesOf coloursOf
     pixel-listed {cell} listed =
         let screen = screenIn setup in
         let two = both (view lent) (starting setup lent) (passing setup lent) e in
-        each-of-read (view lent) (λ entry x. inColours (colourOf screen entry x)) (entering setup lent (two .first))
-        (λ entry x. (_, run-within-value (λ (refusal : ⊥). absurd refusal) ofColour (view lent) (colourOf screen entry x))) (setup .controls .width) 0 (two .next)
+        each-of-read (view lent) (λ entry x. inColours (colourOfPixel screen entry x)) (entering setup lent (two .first))
+        (λ entry x. (_, run-within-value (λ (refusal : ⊥). absurd refusal) ofColour (view lent) (colourOfPixel screen entry x))) (setup .controls .width) 0 (two .next)
         (record {
           position = listed .pixel;
           low = omega arith;
@@ -70,7 +70,7 @@ module _ (setup : Setup) (lent : Lent) where
           value = listed .entry;
           found = sym (run-ok (view lent) (starting setup lent) _ (two .found)) ∙ listed .has;
           here =
-              within-read (λ (refusal : ⊥). absurd refusal) ofColour (view lent) (colourOf screen (listed .entry) (listed .pixel))
+              within-read (λ (refusal : ⊥). absurd refusal) ofColour (view lent) (colourOfPixel screen (listed .entry) (listed .pixel))
               (colour-listed (λ (c : PixelCell). view lent (ofColour c)) screen (listed .entry) (listed .pixel) cell (listed .listed));
         })
 
@@ -174,7 +174,7 @@ module _ (setup : Setup) (lent : Lent) where
       by-outcome : {outcome : Outcome Numbered (List ℕ)} → lineOf setup lent ≡ outcome → ListedFor setup lent outcome cell
       by-outcome e = subst (λ (outcome : Outcome Numbered (List ℕ)). ListedFor setup lent outcome cell) e listed
 
-      by-entries : verdict (lineFaults setup) ≡ ok tt → (outcome : Outcome Numbered (List Entry)) → run (view lent) (entriesOf setup) ≡ outcome
+      by-entries : verdict (lineFaults setup) ≡ ok tt → (outcome : Outcome Numbered (List WindowEntry)) → run (view lent) (entriesOf setup) ≡ outcome
           → Among cell (reads (view lent) (entriesOf setup >>= coloursOf setup))
       by-entries fine (ok entries) e = drawn-listed e cell (by-outcome (answered-drawn setup lent fine e .1))
       by-entries fine (refused refusal) e =

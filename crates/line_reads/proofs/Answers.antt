@@ -16,7 +16,7 @@ use Rattle.line_setup.specs.Faults.{lengthFaults, lineFaults}
 use Rattle.line_setup.specs.declared.setup.Setup.{Setup}
 use Rattle.line.specs.Cells.{Lent}
 use Rattle.line.specs.Line.{lineOf}
-use Rattle.line.specs.Drawn.{setupOf, said, after, drawn}
+use Rattle.line.specs.Drawn.{setupOf, withoutColours, outputAfter, drawn}
 use Rattle.line_reads.specs.Reasons.{Reason, at-once, no-frame-entry, no-line-entry, undefined-entry}
 use Rattle.line_reads.proofs.Reasons.{refused-for, for-refused}
 
@@ -68,7 +68,7 @@ module _ (state : State) (y : ℕ) (lent : Lent) (output : List ℕ) where
   state-stays = refl
 
   -- what is said of a line that is refused is its refusal
-  said-refused : (line : Outcome Numbered (List ℕ)) {refusal : Numbered} → said line ≡ refused refusal → line ≡ refused refusal
+  said-refused : (line : Outcome Numbered (List ℕ)) {refusal : Numbered} → withoutColours line ≡ refused refusal → line ≡ refused refusal
   said-refused (ok colours) e = impossible (cc)
   said-refused (refused refusal) e = cc
 
@@ -80,12 +80,12 @@ module _ (state : State) (y : ℕ) (lent : Lent) (output : List ℕ) where
   -- and for each reason
   pub for-answer : {refusal : Numbered} → Reason given lent refusal → drawn state y lent output .1 ≡ refused refusal
   unfolding drawn
-  for-answer reason = ap said (for-refused given lent reason)
+  for-answer reason = ap withoutColours (for-refused given lent reason)
 
   -- a line that is refused leaves the output as it was
   pub output-stays : {refusal : Numbered} → drawn state y lent output .1 ≡ refused refusal → drawn state y lent output .0 .1 ≡ output
   unfolding drawn
-  output-stays e = ap (after (given .controls .width) output) (said-refused (lineOf given lent) e)
+  output-stays e = ap (outputAfter (given .controls .width) output) (said-refused (lineOf given lent) e)
 
   -- a line of a good state is never refused by 11
   pub good-not-11 : goodState state ≡ true → {refusal : Numbered} → drawn state y lent output .1 ≡ refused refusal → Not11 refusal

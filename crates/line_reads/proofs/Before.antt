@@ -11,17 +11,17 @@ use Rattle.rules.proofs.Asks.{asks-reads, asks-then, asks-cond, asks-any, asks-
 use Rattle.rules.proofs.Checked.{run-checked, checked-reads}
 use Rattle.rules.proofs.Value.{never-within}
 use Rattle.line_colour.specs.Entry.{decoded}
-use Rattle.line_colour.specs.declared.entry.Entry.{Entry}
+use Rattle.line_colour.specs.declared.entry.WindowEntry.{WindowEntry}
 use Rattle.line_windows.specs.Table.{TableCell}
 use Rattle.line_windows.specs.Frame.{lineTableOf}
 use Rattle.line_windows.specs.Ids.{idOf}
-use Rattle.line_pixels.specs.Colour.{colourOf}
+use Rattle.line_pixels.specs.Colour.{colourOfPixel}
 use Rattle.line_setup.specs.Faults.{lineFaults}
 use Rattle.line_setup.specs.declared.controls.Controls.{Controls}
 use Rattle.line_setup.specs.declared.setup.Setup.{Setup}
 use Rattle.line.specs.Screen.{screenIn}
 use Rattle.line.specs.Cells.{Cell, ofTable, ofColour, Lent, view}
-use Rattle.line.specs.Line.{inTable, startOf, idAt, entryAt, entriesOf, coloursOf, lineRule, lineOf}
+use Rattle.line.specs.Line.{inTable, startOf, idAt, windowEntryAt, entriesOf, coloursOf, lineRule, lineOf}
 use Rattle.line.proofs.Defined.{asks-nothing}
 use Rattle.line_reads.specs.Listed.{NoColour}
 
@@ -43,8 +43,8 @@ module _ (controls : Controls) (tableBytes : ℕ) where
   asks-id start x = asks-cond NoColour (controls .ids) _ _ (asks-table (idOf tableBytes start x)) tt
 
   -- a pixel's window entry
-  asks-entry : (start x : ℕ) → Asks NoColour (entryAt controls tableBytes start x)
-  unfolding entryAt
+  asks-entry : (start x : ℕ) → Asks NoColour (windowEntryAt controls tableBytes start x)
+  unfolding windowEntryAt
   asks-entry start x =
       asks-then NoColour (idAt controls tableBytes start x) _ (asks-id start x)
       (λ id. (tt, λ word. asks-nothing NoColour x (decoded word (controls .depth))))
@@ -58,10 +58,10 @@ module _ (setup : Setup) where
       (λ start. asks-each NoColour _ (asks-entry (setup .controls) (setup .lengths .table) start) (setup .controls .width) 0)
 
   -- the second pass refuses nothing
-  pub never-colours : (entries : List Entry) → NeverRefuses (coloursOf setup entries)
+  pub never-colours : (entries : List WindowEntry) → NeverRefuses (coloursOf setup entries)
   unfolding coloursOf
   never-colours entries =
-      never-each-of _ (λ entry x. never-within _ ofColour (colourOf (screenIn setup) entry x)) entries 0
+      never-each-of _ (λ entry x. never-within _ ofColour (colourOfPixel (screenIn setup) entry x)) entries 0
 
   module _ (lent : Lent) where
     -- a line that is refused by what it goes by alone reads nothing

@@ -8,9 +8,9 @@ use Rattle.rules.specs.Rule.{Rule, ok, run, value}
 use Rattle.rules.specs.Each.{eachOf}
 use Rattle.rules.specs.Checked.{checked}
 use Rattle.rules.proofs.Value.{run-within-value}
-use Rattle.line_colour.specs.declared.entry.Entry.{Entry}
+use Rattle.line_colour.specs.declared.entry.WindowEntry.{WindowEntry}
 use Rattle.line_pixels.specs.Cells.{pixelView}
-use Rattle.line_pixels.specs.Colour.{colourOf}
+use Rattle.line_pixels.specs.Colour.{colourOfPixel}
 use Rattle.line_pixels.proofs.Below.{colour-below}
 use Rattle.chip.specs.declared.state.State.{State}
 use Rattle.line_setup.specs.Controls.{controlsOf}
@@ -40,11 +40,11 @@ module _ {R Q B : Type 0} (memory : Q → ℕ) (rule : B → ℕ → Rule R Q �
 
 module _ (setup : Setup) (lent : Lent) where
   -- a pixel's colour, as a rule of the line
-  pixel-below : (entry : Entry) (x answer : ℕ) → run (view lent) (inColours (colourOf (screenIn setup) entry x)) ≡ ok answer → answer < 2 ^ 24
+  pixel-below : (entry : WindowEntry) (x answer : ℕ) → run (view lent) (inColours (colourOfPixel (screenIn setup) entry x)) ≡ ok answer → answer < 2 ^ 24
   pixel-below entry x answer is =
       let screen = screenIn setup in
-      let same : answer ≡ value (pixelView (lent .store) (lent .normal) (lent .overlay)) (colourOf screen entry x) =
-      cc (is, run-within-value (λ refusal. absurd refusal) ofColour (view lent) (colourOf screen entry x)) in
+      let same : answer ≡ value (pixelView (lent .store) (lent .normal) (lent .overlay)) (colourOfPixel screen entry x) =
+      cc (is, run-within-value (λ refusal. absurd refusal) ofColour (view lent) (colourOfPixel screen entry x)) in
       rw same (colour-below (lent .store) (lent .normal) (lent .overlay) screen entry x)
 
   -- every colour of a drawn line

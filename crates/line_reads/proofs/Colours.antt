@@ -10,14 +10,14 @@ use Rattle.rules.specs.Rule.{Rule, done, get, reads, value, _>>=_}
 use Rattle.rules.proofs.Value.{run-value}
 use Rattle.words.specs.Channels.{channelsOf}
 use Rattle.line_colour.specs.Shown.{shownOf}
-use Rattle.line_colour.specs.declared.entry.Entry.{Entry}
+use Rattle.line_colour.specs.declared.entry.WindowEntry.{WindowEntry}
 use Rattle.line_colour.specs.declared.entry.Shown.{Shown}
 use Rattle.line_colour.specs.declared.entry.Shown.the-variants.{MapEntry, Colour}
 use Rattle.line_pixels.specs.Cells.{Channel, inRed, inGreen, inBlue, channelIn, PixelCell, glyph, overlayByte, mapEntry, gamma}
 use Rattle.line_pixels.specs.Cursor.{glyphPlace, inGlyph, onCrossHair, cursorAt}
-use Rattle.line_pixels.specs.Colour.{Layer, ofCursor, ofOverlay, ofNormal, skipsGamma, throughGamma, shownColour, normalAt, plainAt, overlaid, overlayCounts, overlayAt, underCursor, cursorShown, colourOf}
+use Rattle.line_pixels.specs.Colour.{Layer, ofCursor, ofOverlay, ofNormal, skipsGamma, throughGamma, shownColour, normalAt, plainAt, overlaid, overlayCounts, overlayAt, underCursor, cursorShown, colourOfPixel}
 use Rattle.line_pixels.specs.declared.Screen.{Screen}
-use Rattle.line_reads.specs.ColourList.{cursorHere, overlayHere, usedCell, layerHere, colourIn, ColourListed}
+use Rattle.line_reads.specs.ColourList.{cursorHere, overlayHere, usedCell, layerHere, colourOfLayer, ColourListed}
 use Rattle.line_reads.proofs.Parts.{Among, Read, by-first, by-second, read-either, either-read}
 
 -- ---- rules that refuse nothing
@@ -55,7 +55,7 @@ module _ (memory : PixelCell → ℕ) where
   shown-read (MapEntry number) here = (number, (refl, List·Memᴰ·eq-of-singleton here))
   shown-read (Colour colour) here = absurd (List·Memᴰ·not-nil here)
 
-  module _ (screen : Screen) (entry : Entry) (x : ℕ) where
+  module _ (screen : Screen) (entry : WindowEntry) (x : ℕ) where
     -- the cursor's cells
     cursor-read : {cell : PixelCell} → Among cell (reads memory (cursorAt screen x)) → ColourListed memory screen entry x cell
     unfolding cursorAt
@@ -90,9 +90,9 @@ module _ (memory : PixelCell → ℕ) where
 
     -- gamma words, of the colour of the layer that shows
     gamma-listed : (layer : Layer) → layerHere memory screen entry x ≡ layer → {cell : PixelCell}
-        → Among cell (reads memory (throughGamma (skipsGamma layer entry) (colourIn memory screen entry x layer))) → ColourListed memory screen entry x cell
+        → Among cell (reads memory (throughGamma (skipsGamma layer entry) (colourOfLayer memory screen entry x layer))) → ColourListed memory screen entry x cell
     gamma-listed layer is here =
-        let found = gamma-read (skipsGamma layer entry) (colourIn memory screen entry x layer) here in
+        let found = gamma-read (skipsGamma layer entry) (colourOfLayer memory screen entry x layer) here in
         subst (ColourListed memory screen entry x) (sym (found .1 .1)) (record { through = rw is (found .0); hit = rw is refl })
 
     -- ---- its cells
@@ -162,8 +162,8 @@ module _ (memory : PixelCell → ℕ) where
         (List·Memᴰ·cases-cons here)
 
     -- every cell that a pixel's colour reads is listed
-    pub colour-read : {cell : PixelCell} → Among cell (reads memory (colourOf screen entry x)) → ColourListed memory screen entry x cell
-    unfolding colourOf
+    pub colour-read : {cell : PixelCell} → Among cell (reads memory (colourOfPixel screen entry x)) → ColourListed memory screen entry x cell
+    unfolding colourOfPixel
     colour-read {cell} here =
         ⊎-elim cursor-read (by (eqb (cursorHere memory screen entry x) 0) refl) (read-value memory (cursorAt screen x) _ here)
       where

@@ -10,7 +10,7 @@ use Rattle.chip.specs.declared.state.State.{State}
 use Rattle.line_setup.specs.declared.setup.Setup.{Setup}
 use Rattle.line.specs.Cells.{Lent, view}
 use Rattle.line.specs.Line.{lineRule, lineOf}
-use Rattle.line.specs.Drawn.{setupOf, drawn, said}
+use Rattle.line.specs.Drawn.{setupOf, drawn, withoutColours}
 use Rattle.line_reads.specs.Calls.{SameLengths, AgreeOnReads}
 
 module _ (setup : Setup) (lent other : Lent) (agree : AgreeOnReads setup lent other) where
@@ -68,4 +68,4 @@ module _ (state : State) (y : ℕ) (lent other : Lent) (same : SameLengths lent 
       → drawn state y lent output .1 ≡ drawn state y other old .1
   unfolding drawn
   answer-rests output old long agree =
-      ap said (outcome-rests (length output) agree ∙ ap (λ (long : ℕ). lineOf (setupOf state y other long) other) long)
+      ap withoutColours (outcome-rests (length output) agree ∙ ap (λ (long : ℕ). lineOf (setupOf state y other long) other) long)

@@ -10,14 +10,14 @@ use Rattle.rules.specs.Rule.{reads}
 use Rattle.rules.proofs.Cases.{impossible}
 use Rattle.words.specs.Channels.{channelsOf}
 use Rattle.line_colour.specs.Shown.{shownOf}
-use Rattle.line_colour.specs.declared.entry.Entry.{Entry}
+use Rattle.line_colour.specs.declared.entry.WindowEntry.{WindowEntry}
 use Rattle.line_colour.specs.declared.entry.Shown.{Shown}
 use Rattle.line_colour.specs.declared.entry.Shown.the-variants.{MapEntry}
 use Rattle.line_pixels.specs.Cells.{Channel, inRed, inGreen, inBlue, channelIn, PixelCell, glyph, cursorColour, overlayByte, sample, mapEntry, gamma}
 use Rattle.line_pixels.specs.Cursor.{cursorAt}
-use Rattle.line_pixels.specs.Colour.{Layer, ofCursor, ofOverlay, ofNormal, skipsGamma, throughGamma, shownColour, normalAt, plainAt, overlayColours, overlaid, overlayAt, underCursor, cursorShown, colourOf}
+use Rattle.line_pixels.specs.Colour.{Layer, ofCursor, ofOverlay, ofNormal, skipsGamma, throughGamma, shownColour, normalAt, plainAt, overlayColours, overlaid, overlayAt, underCursor, cursorShown, colourOfPixel}
 use Rattle.line_pixels.specs.declared.Screen.{Screen}
-use Rattle.line_reads.specs.ColourList.{cursorHere, overlayHere, usedCell, layerHere, colourIn, beforeGamma, GlyphListed, CursorColourListed, OverlayListed, SampleListed, MapListed, GammaListed, ColourListed}
+use Rattle.line_reads.specs.ColourList.{cursorHere, overlayHere, usedCell, layerHere, colourOfLayer, beforeGamma, GlyphListed, CursorColourListed, OverlayListed, SampleListed, MapListed, GammaListed, ColourListed}
 use Rattle.line_reads.proofs.Parts.{Among}
 use Rattle.line_reads.proofs.Colours.{value-read, cursor-here, overlay-here, normal-here}
 
@@ -31,17 +31,17 @@ module _ (memory : PixelCell → ℕ) where
   gamma-hit false e inGreen word = List·Memᴰ·tail (List·Memᴰ·head refl)
   gamma-hit false e inBlue word = List·Memᴰ·tail (List·Memᴰ·tail (List·Memᴰ·head refl))
 
-  module _ (screen : Screen) (entry : Entry) (x : ℕ) where
+  module _ (screen : Screen) (entry : WindowEntry) (x : ℕ) where
     -- what is read where the cursor is transparent
     under : cursorHere memory screen entry x ≡ 0 → {cell : PixelCell} → Among cell (reads memory (underCursor screen entry x))
-        → Among cell (reads memory (colourOf screen entry x))
-    unfolding colourOf
+        → Among cell (reads memory (colourOfPixel screen entry x))
+    unfolding colourOfPixel
     under transparent {cell} here = value-read memory (cursorAt screen x) _ (inr (rw (eq-eqb _ _ transparent) here))
 
     -- what is read where it shows
     shown : cursorHere memory screen entry x ≢ 0 → {cell : PixelCell} → Among cell (reads memory (cursorShown entry (cursorHere memory screen entry x)))
-        → Among cell (reads memory (colourOf screen entry x))
-    unfolding colourOf
+        → Among cell (reads memory (colourOfPixel screen entry x))
+    unfolding colourOfPixel
     shown shows here = value-read memory (cursorAt screen x) _ (inr (rw (ne-eqb _ _ shows) here))
 
     -- what is read where overlay is transparent too
@@ -57,26 +57,26 @@ module _ (memory : PixelCell → ℕ) where
     over shows here = value-read memory (overlayAt screen entry x) _ (inr (rw (ne-eqb _ _ shows) here))
 
     -- the glyph's cell
-    glyph-listed : {row column : ℕ} → GlyphListed memory screen entry x row column → Among (glyph row column) (reads memory (colourOf screen entry x))
-    unfolding colourOf cursorAt
+    glyph-listed : {row column : ℕ} → GlyphListed memory screen entry x row column → Among (glyph row column) (reads memory (colourOfPixel screen entry x))
+    unfolding colourOfPixel cursorAt
     glyph-listed listed =
         value-read memory (cursorAt screen x) _
         (inl (rw (listed .inside, listed .on, listed .no-crosshair, listed .at-row, listed .at-column) (List·Memᴰ·head refl)))
 
     -- the cursor colour shown
-    cursor-listed : {number : ℕ} → CursorColourListed memory screen entry x number → Among (cursorColour number) (reads memory (colourOf screen entry x))
+    cursor-listed : {number : ℕ} → CursorColourListed memory screen entry x number → Among (cursorColour number) (reads memory (colourOfPixel screen entry x))
     unfolding cursorShown
     cursor-listed listed = shown (listed .shows) (List·Memᴰ·head (ap cursorColour (listed .shown)))
 
     -- the overlay byte
-    overlay-listed : {pixel : ℕ} → OverlayListed memory screen entry x pixel → Among (overlayByte pixel) (reads memory (colourOf screen entry x))
+    overlay-listed : {pixel : ℕ} → OverlayListed memory screen entry x pixel → Among (overlayByte pixel) (reads memory (colourOfPixel screen entry x))
     unfolding underCursor overlayAt
     overlay-listed listed =
         under (listed .transparent)
         (value-read memory (overlayAt screen entry x) _ (inl (rw (listed .counts) (List·Memᴰ·head (ap overlayByte (listed .here))))))
 
     -- the used bits
-    sample-listed : {cell : PixelCell} → SampleListed memory screen entry x cell → Among cell (reads memory (colourOf screen entry x))
+    sample-listed : {cell : PixelCell} → SampleListed memory screen entry x cell → Among cell (reads memory (colourOfPixel screen entry x))
     unfolding plainAt normalAt
     sample-listed listed =
         under (listed .transparent)
@@ -99,20 +99,20 @@ module _ (memory : PixelCell → ℕ) where
           (inl (List·Memᴰ·tail (subst (λ (shown : Shown). Among (mapEntry number) (reads memory (shownColour shown))) (sym hit) (List·Memᴰ·head refl)))))
 
       -- the map entry hit
-      map-listed : MapListed memory screen entry x number → Among (mapEntry number) (reads memory (colourOf screen entry x))
+      map-listed : MapListed memory screen entry x number → Among (mapEntry number) (reads memory (colourOfPixel screen entry x))
       map-listed listed =
           under (listed .transparent) (⊎-elim (λ hit. map-by-overlay (hit .0) (hit .1)) (λ hit. map-by-sample (hit .0) (hit .1)) (listed .hit))
 
     module _ {channel : Channel} {number : ℕ} (listed : GammaListed memory screen entry x (channelIn channel (channelsOf (beforeGamma memory screen entry x))) number) where
       -- the gamma word of the colour of the layer that shows
       gamma-of : (layer : Layer) → layerHere memory screen entry x ≡ layer
-          → Among (gamma channel number) (reads memory (throughGamma (skipsGamma layer entry) (colourIn memory screen entry x layer)))
+          → Among (gamma channel number) (reads memory (throughGamma (skipsGamma layer entry) (colourOfLayer memory screen entry x layer)))
       gamma-of layer is =
-          Memᴰ·cast (ap (gamma channel) (listed .hit ∙ ap (λ (l : Layer). channelIn channel (channelsOf (colourIn memory screen entry x l))) is))
-          (gamma-hit (skipsGamma layer entry) (sym (ap (λ (l : Layer). skipsGamma l entry) is) ∙ listed .through) channel (colourIn memory screen entry x layer))
+          Memᴰ·cast (ap (gamma channel) (listed .hit ∙ ap (λ (l : Layer). channelIn channel (channelsOf (colourOfLayer memory screen entry x l))) is))
+          (gamma-hit (skipsGamma layer entry) (sym (ap (λ (l : Layer). skipsGamma l entry) is) ∙ listed .through) channel (colourOfLayer memory screen entry x layer))
 
       -- where the cursor shows
-      gamma-by-cursor : cursorHere memory screen entry x ≢ 0 → Among (gamma channel number) (reads memory (colourOf screen entry x))
+      gamma-by-cursor : cursorHere memory screen entry x ≢ 0 → Among (gamma channel number) (reads memory (colourOfPixel screen entry x))
       unfolding cursorShown
       gamma-by-cursor shows = shown shows (List·Memᴰ·tail (gamma-of ofCursor (cursor-here memory screen entry x shows)))
 
@@ -129,17 +129,17 @@ module _ (memory : PixelCell → ℕ) where
             plain clear (value-read memory (normalAt (screen .depth) entry x) _ (inr (gamma-of ofNormal (normal-here memory screen entry x transparent clear))))
 
       -- the gamma word hit
-      gamma-listed : Among (gamma channel number) (reads memory (colourOf screen entry x))
+      gamma-listed : Among (gamma channel number) (reads memory (colourOfPixel screen entry x))
       gamma-listed = by (eqb (cursorHere memory screen entry x) 0) (eqb (overlayHere memory screen entry x) 0) refl refl
         where
           by : (transparent clear : Bool) → eqb (cursorHere memory screen entry x) 0 ≡ transparent → eqb (overlayHere memory screen entry x) 0 ≡ clear
-              → Among (gamma channel number) (reads memory (colourOf screen entry x))
+              → Among (gamma channel number) (reads memory (colourOfPixel screen entry x))
           by false clear e f = gamma-by-cursor (eqb-false _ _ e)
           by true false e f = under (eqb-true _ _ e) (gamma-by-overlay (eqb-true _ _ e) (eqb-false _ _ f))
           by true true e f = under (eqb-true _ _ e) (gamma-by-sample (eqb-true _ _ e) (eqb-true _ _ f))
 
     -- every cell that is listed of a pixel's colour is read
-    pub colour-listed : (cell : PixelCell) → ColourListed memory screen entry x cell → Among cell (reads memory (colourOf screen entry x))
+    pub colour-listed : (cell : PixelCell) → ColourListed memory screen entry x cell → Among cell (reads memory (colourOfPixel screen entry x))
     colour-listed (glyph row column) listed = glyph-listed listed
     colour-listed (cursorColour number) listed = cursor-listed listed
     colour-listed (overlayByte pixel) listed = overlay-listed listed

@@ -10,15 +10,15 @@ use Rattle.chip.specs.declared.state.State.{State}
 use Rattle.line_setup.specs.Controls.{controlsOf}
 use Rattle.line_setup.specs.Faults.{tableTooLong, overlayWrong, lengthFaults, lineFaults}
 use Rattle.line.specs.Cells.{Cell, Lent, view}
-use Rattle.line.specs.Line.{startOf, idAt, entryAt, entriesOf, coloursOf, lineRule, lineOf}
-use Rattle.line.specs.Drawn.{setupOf, said, after, drawn}
+use Rattle.line.specs.Line.{startOf, idAt, windowEntryAt, entriesOf, coloursOf, lineRule, lineOf}
+use Rattle.line.specs.Drawn.{setupOf, withoutColours, outputAfter, drawn}
 use Rattle.line_reads.specs.Hidden.{withTable, withOverlay}
 use Rattle.line_reads.proofs.Hidden.{overlay-off, other-table}
 
 module _ (state : State) (y : ℕ) (lent : Lent) (output : List ℕ) where
   -- what a call leaves and answers, by what comes of its line
   abbrev by-line : Outcome Numbered (List ℕ) → (State × List ℕ) × Outcome Numbered (Unit {0})
-  by-line line = ((state, after (controlsOf (state .control) .width) output line), said line)
+  by-line line = ((state, outputAfter (controlsOf (state .control) .width) output line), withoutColours line)
 
   -- where overlay is off, the rule of the line doesn't look at the row's length
   overlay-length : controlsOf (state .control) .overlay ≡ false → (row : List ℕ)
@@ -37,7 +37,7 @@ module _ (state : State) (y : ℕ) (lent : Lent) (output : List ℕ) where
   -- where window IDs are off, it doesn't look at the table's length
   table-length : controlsOf (state .control) .ids ≡ false → (table : List ℕ)
       → lineRule (setupOf state y lent (length output)) ≡ lineRule (setupOf state y (withTable lent table) (length output))
-  unfolding setupOf lineRule lineFaults lengthFaults overlayWrong tableTooLong entriesOf coloursOf startOf entryAt idAt
+  unfolding setupOf lineRule lineFaults lengthFaults overlayWrong tableTooLong entriesOf coloursOf startOf windowEntryAt idAt
   table-length off table = rw off refl
 
   -- any table where window IDs are off

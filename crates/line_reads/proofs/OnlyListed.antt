@@ -12,9 +12,9 @@ use Rattle.rules.specs.Faults.{Numbered}
 use Rattle.rules.specs.Checked.{verdict}
 use Rattle.rules.proofs.Cases.{impossible, le-or-lt}
 use Rattle.rules.proofs.Then.{run-ok, run-refused}
-use Rattle.line_colour.specs.declared.entry.Entry.{Entry}
+use Rattle.line_colour.specs.declared.entry.WindowEntry.{WindowEntry}
 use Rattle.line_pixels.specs.Cells.{PixelCell}
-use Rattle.line_pixels.specs.Colour.{colourOf}
+use Rattle.line_pixels.specs.Colour.{colourOfPixel}
 use Rattle.line_setup.specs.Faults.{lineFaults}
 use Rattle.line_setup.specs.declared.setup.Setup.{Setup}
 use Rattle.line.specs.Screen.{screenIn}
@@ -32,12 +32,12 @@ use Rattle.line_reads.proofs.MetPixels.{met-whole, AllIds, pixel-met, w
 
 module _ (setup : Setup) (lent : Lent) where
   -- the pass over the pixels from the line table that starts at a byte
-  abbrev pub passing : ℕ → Rule Numbered Cell (List Entry)
+  abbrev pub passing : ℕ → Rule Numbered Cell (List WindowEntry)
   passing start = each (entering setup lent start) (setup .controls .width) 0
 
   -- ---- a first pass that answers
 
-  module _ {entries : List Entry} (e : run (view lent) (entriesOf setup) ≡ ok entries) where
+  module _ {entries : List WindowEntry} (e : run (view lent) (entriesOf setup) ≡ ok entries) where
     -- what it reads is listed of all active pixels
     answered-read : {cell : Cell} → Among cell (reads (view lent) (entriesOf setup)) → MetListed setup lent (setup .controls .width) cell
     unfolding entriesOf
@@ -57,8 +57,8 @@ module _ (setup : Setup) (lent : Lent) where
     unfolding entriesOf coloursOf
     colours-read {cell} here =
         let two = both (view lent) (starting setup lent) passing e in
-        let at = read-each-of (view lent) (λ entry x. inColours (colourOf (screenIn setup) entry x)) (entering setup lent (two .first)) (setup .controls .width) 0 (two .next) here in
-        let inner = read-within (λ (refusal : ⊥). absurd refusal) ofColour (view lent) (colourOf (screenIn setup) (at .value) (at .position)) (at .here) in
+        let at = read-each-of (view lent) (λ entry x. inColours (colourOfPixel (screenIn setup) entry x)) (entering setup lent (two .first)) (setup .controls .width) 0 (two .next) here in
+        let inner = read-within (λ (refusal : ⊥). absurd refusal) ofColour (view lent) (colourOfPixel (screenIn setup) (at .value) (at .position)) (at .here) in
         subst (DrawnListed setup lent) (sym (inner .is))
         (record {
           pixel = at .position;
@@ -162,7 +162,7 @@ module _ (setup : Setup) (lent : Lent) where
   always memory (ask cell next) never = always memory (next (memory cell)) (never (memory cell))
 
   -- a line whose first pass answers is drawn
-  pub answered-drawn : verdict (lineFaults setup) ≡ ok tt → {entries : List Entry} → run (view lent) (entriesOf setup) ≡ ok entries
+  pub answered-drawn : verdict (lineFaults setup) ≡ ok tt → {entries : List WindowEntry} → run (view lent) (entriesOf setup) ≡ ok entries
       → (colours : List ℕ) × (lineOf setup lent ≡ ok colours)
   answered-drawn fine {entries} e =
       let drawn = always (view lent) (coloursOf setup entries) (never-colours setup entries) in
@@ -177,7 +177,7 @@ module _ (setup : Setup) (lent : Lent) where
   pub reads-listed : (cell : Cell) → List·Memᴰ cell (reads (view lent) (lineRule setup)) → Listed setup lent cell
   reads-listed cell here = by-verdict (verdict (lineFaults setup)) refl
     where
-      by-answer : {entries : List Entry} → run (view lent) (entriesOf setup) ≡ ok entries → Read (view lent) (entriesOf setup) (coloursOf setup) cell
+      by-answer : {entries : List WindowEntry} → run (view lent) (entriesOf setup) ≡ ok entries → Read (view lent) (entriesOf setup) (coloursOf setup) cell
           → DrawnListed setup lent cell
       by-answer e (by-first there) = met-drawn cell (answered-read e there)
       by-answer e (by-second entries found there) = colours-read found there
@@ -188,7 +188,7 @@ module _ (setup : Setup) (lent : Lent) where
       by-refusal e (by-second entries found there) = impossible (cc)
 
       by-entries : verdict (lineFaults setup) ≡ ok tt → Read (view lent) (entriesOf setup) (coloursOf setup) cell
-          → (outcome : Outcome Numbered (List Entry)) → run (view lent) (entriesOf setup) ≡ outcome → Listed setup lent cell
+          → (outcome : Outcome Numbered (List WindowEntry)) → run (view lent) (entriesOf setup) ≡ outcome → Listed setup lent cell
       by-entries fine there (ok entries) e =
           subst (λ (outcome : Outcome Numbered (List ℕ)). ListedFor setup lent outcome cell) (sym (answered-drawn fine e .1)) (by-answer e there)
       by-entries fine there (refused refusal) e =

@@ -16,7 +16,7 @@ use Rattle.line_setup.specs.declared.setup.Setup.{Setup}
 use Rattle.line_setup.proofs.Fitted.{fitted}
 use Rattle.line.specs.Cells.{Lent, view}
 use Rattle.line.specs.Line.{entriesOf, coloursOf, lineOf}
-use Rattle.line.specs.Drawn.{setupOf, drawn, said, after}
+use Rattle.line.specs.Drawn.{setupOf, drawn, withoutColours, outputAfter}
 use Rattle.line_reads.specs.Calls.{SameLengths, AgreeOnReads}
 use Rattle.line_reads.proofs.Demand.{outcome-rests}
 use Rattle.line_reads.proofs.Before.{refused-unread, passes}
@@ -53,7 +53,7 @@ module _ (state : State) (y : ℕ) (lent : Lent) (output : List ℕ) where
   unfolding drawn
   drawn-line is-drawn = by (lineOf given lent) refl is-drawn
     where
-      by : (line : Outcome Numbered (List ℕ)) → lineOf given lent ≡ line → said line ≡ ok tt → (colours : List ℕ) × (lineOf given lent ≡ ok colours)
+      by : (line : Outcome Numbered (List ℕ)) → lineOf given lent ≡ line → withoutColours line ≡ ok tt → (colours : List ℕ) × (lineOf given lent ≡ ok colours)
       by (ok colours) e is = (colours, e)
       by (refused refusal) e is = impossible (cc)
 
@@ -63,7 +63,7 @@ module _ (state : State) (y : ℕ) (lent : Lent) (output : List ℕ) where
   unfolding drawn setupOf
   word-drawn {colours} e x active =
       let width = controlsOf (state .control) .width in
-      ap (λ (line : Outcome Numbered (List ℕ)). getD (after width output line) x 0) e
+      ap (λ (line : Outcome Numbered (List ℕ)). getD (outputAfter width output line) x 0) e
       ∙ List·getD-append colours (drop width output) 0 x (omega (arith, colours-length given lent e))
 
   -- a word past the active width stays, whatever comes of the line
@@ -71,7 +71,7 @@ module _ (state : State) (y : ℕ) (lent : Lent) (output : List ℕ) where
   unfolding drawn setupOf
   word-past x past = by (lineOf given lent) refl
     where
-      by : (line : Outcome Numbered (List ℕ)) → lineOf given lent ≡ line → getD (after (given .controls .width) output line) x 0 ≡ getD output x 0
+      by : (line : Outcome Numbered (List ℕ)) → lineOf given lent ≡ line → getD (outputAfter (given .controls .width) output line) x 0 ≡ getD output x 0
       by (ok colours) e =
           let width = given .controls .width in
           let long = colours-length given lent e in
@@ -97,7 +97,7 @@ module _ (state : State) (y : ℕ) (lent : Lent) (output : List ℕ) where
   unfolding drawn
   output-length = by (lineOf given lent) refl
     where
-      by : (line : Outcome Numbered (List ℕ)) → lineOf given lent ≡ line → length (after (given .controls .width) output line) ≡ length output
+      by : (line : Outcome Numbered (List ℕ)) → lineOf given lent ≡ line → length (outputAfter (given .controls .width) output line) ≡ length output
       by (ok colours) e =
           let width = given .controls .width in
           omega (arith, length-append colours (drop width output), length-drop width output, colours-length given lent e, line-fits e)

@@ -10,8 +10,8 @@ use Rattle.rules.specs.Checked.{verdict}
 use Rattle.rules.proofs.Cases.{impossible}
 use Rattle.rules.proofs.Then.{run-ok}
 use Rattle.rules.proofs.Value.{run-within-value}
-use Rattle.line_colour.specs.declared.entry.Entry.{Entry}
-use Rattle.line_pixels.specs.Colour.{colourOf}
+use Rattle.line_colour.specs.declared.entry.WindowEntry.{WindowEntry}
+use Rattle.line_pixels.specs.Colour.{colourOfPixel}
 use Rattle.chip.specs.declared.state.State.{State}
 use Rattle.line_setup.specs.Controls.{controlsOf}
 use Rattle.line_setup.specs.Faults.{lineFaults}
@@ -39,14 +39,14 @@ module _ (setup : Setup) (lent : Lent) where
       let two = both (view lent) (entriesOf setup) (coloursOf setup) e in
       let first = both (view lent) (starting setup lent) (passing setup lent) (two .found) in
       let at =
-      answer-each-of (view lent) (λ entry x. inColours (colourOf screen entry x)) (entering setup lent (first .first)) 0 (setup .controls .width) 0
+      answer-each-of (view lent) (λ entry x. inColours (colourOfPixel screen entry x)) (entering setup lent (first .first)) 0 (setup .controls .width) 0
       (first .next) (two .next) x active in
       let found : run (view lent) (entering setup lent (first .first) x) ≡ ok (at .value) = rw zero-add at (at .found) in
-      let made : run (view lent) (inColours (colourOf screen (at .value) x)) ≡ ok (getD colours x 0) = rw zero-add at (at .made) in
+      let made : run (view lent) (inColours (colourOfPixel screen (at .value) x)) ≡ ok (getD colours x 0) = rw zero-add at (at .made) in
       record {
         entry = at .value;
         has = run-ok (view lent) (starting setup lent) _ (first .found) ∙ found;
-        is = cc (made, run-within-value (λ (refusal : ⊥). absurd refusal) ofColour (view lent) (colourOf screen (at .value) x));
+        is = cc (made, run-within-value (λ (refusal : ⊥). absurd refusal) ofColour (view lent) (colourOfPixel screen (at .value) x));
       }
 
   -- each active pixel of a drawn line has a defined window entry, and its word is its colour under that
@@ -63,7 +63,7 @@ module _ (setup : Setup) (lent : Lent) where
   one-colour {x} first second =
       let same : first .entry ≡ second .entry = cc (first .has, second .has) in
       first .is
-      ∙ ap (λ (entry : Entry). value (λ cell. view lent (ofColour cell)) (colourOf (screenIn setup) entry x)) same
+      ∙ ap (λ (entry : WindowEntry). value (λ cell. view lent (ofColour cell)) (colourOfPixel (screenIn setup) entry x)) same
       ∙ sym (second .is)
 
 -- the same of the whole call: where it answers that the line is drawn, each word of the active width is the colour of its pixel

@@ -12,12 +12,12 @@ use Rattle.refusals.specs.Refusal.{numbered}
 use Rattle.refusals.specs.declared.Refusal.the-variants.{NoLineEntry, UndefinedEntry}
 use Rattle.line_colour.specs.Entry.{decoded}
 use Rattle.line_colour.specs.declared.entry.Decoded.{Decoded}
-use Rattle.line_colour.specs.declared.entry.Entry.{Entry}
+use Rattle.line_colour.specs.declared.entry.WindowEntry.{WindowEntry}
 use Rattle.line_windows.specs.Table.{TableCell, tableView}
 use Rattle.line_windows.specs.Ids.{lineEntries, endOf, idCell, lineEntryOf, idOf}
 use Rattle.line_setup.specs.declared.setup.Setup.{Setup}
 use Rattle.line.specs.Cells.{Cell, ofTable, windowEntry, Lent, view}
-use Rattle.line.specs.Line.{definedAt, entryAt}
+use Rattle.line.specs.Line.{definedAt, windowEntryAt}
 use Rattle.line.proofs.Entries.{run-in-table}
 use Rattle.line.proofs.Defined.{asks-nothing, refuses-undefined}
 use Rattle.line_reads.specs.TableList.{LineEntry}
@@ -27,8 +27,8 @@ use Rattle.line_reads.proofs.Frames.{identifying, id-on, id-off}
 
 module _ (setup : Setup) (lent : Lent) (start : ℕ) where
   -- the rule of pixel x's window entry
-  abbrev pub entering : ℕ → Rule Numbered Cell Entry
-  entering x = entryAt (setup .controls) (setup .lengths .table) start x
+  abbrev pub entering : ℕ → Rule Numbered Cell WindowEntry
+  entering x = windowEntryAt (setup .controls) (setup .lengths .table) start x
 
   -- the cells of a pixel that has an ID: ends up to that of its line entry, the ID in that, and the window entry of the ID
   pub data OfPixel (x : ℕ) (cell : Cell) : Type 0 where
@@ -96,7 +96,7 @@ module _ (setup : Setup) (lent : Lent) (start : ℕ) where
     -- a pixel that has an ID reads these cells, whatever comes of its window entry
     pub pixel-read : {id : ℕ} → run (view lent) (identifying setup lent start x) ≡ ok id → {cell : Cell}
         → Among cell (reads (view lent) (entering x)) → OfPixel x cell
-    unfolding entryAt
+    unfolding windowEntryAt
     pixel-read e {cell} here = by (read-either (view lent) (identifying setup lent start x) _ here)
       where
         by : Read (view lent) (identifying setup lent start x)
@@ -109,8 +109,8 @@ module _ (setup : Setup) (lent : Lent) (start : ℕ) where
     -- ---- what comes of a pixel
 
     -- a pixel that has a window entry has an ID
-    pub entry-id : {entry : Entry} → run (view lent) (entering x) ≡ ok entry → (id : ℕ) × (run (view lent) (identifying setup lent start x) ≡ ok id)
-    unfolding entryAt
+    pub entry-id : {entry : WindowEntry} → run (view lent) (entering x) ≡ ok entry → (id : ℕ) × (run (view lent) (identifying setup lent start x) ≡ ok id)
+    unfolding windowEntryAt
     entry-id e = let two = both (view lent) (identifying setup lent start x) _ e in (two .first, two .found)
 
     -- a pixel without an ID: window IDs are on, and the look-up in the table refuses
@@ -143,7 +143,7 @@ module _ (setup : Setup) (lent : Lent) (start : ℕ) where
 
     -- there is no other reason
     pub pixel-refused : {refusal : Numbered} → run (view lent) (entering x) ≡ refused refusal → RefusedPixel refusal
-    unfolding entryAt
+    unfolding windowEntryAt
     pixel-refused {refusal} e = by (either (view lent) (identifying setup lent start x) _ e)
       where
         by : Either (view lent) (identifying setup lent start x)
@@ -158,7 +158,7 @@ module _ (setup : Setup) (lent : Lent) (start : ℕ) where
       -- a pixel without an ID reads all ends of the line table, and nothing else
       pub no-id-read : {cell : Cell} → Among cell (reads (view lent) (entering x))
           → (number : ℕ) × ((number < lineEntries (setup .lengths .table) start) × (cell ≡ ofTable (endOf start number)))
-      unfolding entryAt idOf
+      unfolding windowEntryAt idOf
       no-id-read {cell} here = by (read-either (view lent) (identifying setup lent start x) _ here)
         where
           by : Read (view lent) (identifying setup lent start x)
@@ -172,7 +172,7 @@ module _ (setup : Setup) (lent : Lent) (start : ℕ) where
 
       -- and each of them is read
       pub read-no-id : (number : ℕ) → number < lineEntries (setup .lengths .table) start → Among (ofTable (endOf start number)) (reads (view lent) (entering x))
-      unfolding entryAt idOf
+      unfolding windowEntryAt idOf
       read-no-id number below =
           either-read (view lent) (identifying setup lent start x) _
           (by-first (inner-id (lacks .on) x
@@ -182,7 +182,7 @@ module _ (setup : Setup) (lent : Lent) (start : ℕ) where
 
     -- each of its cells is read
     pub read-pixel : {cell : Cell} → OfPixel x cell → Among cell (reads (view lent) (entering x))
-    unfolding entryAt idOf
+    unfolding windowEntryAt idOf
     read-pixel (pixel-end on entry found number up-to is) =
         Memᴰ·cast is
         (either-read (view lent) (identifying setup lent start x) _

@@ -25,9 +25,9 @@ use Rattle.line_windows.proofs.Answers.{table-of-none, table-unanswered, id-of-
 use Rattle.line_setup.specs.Faults.{lineFaults}
 use Rattle.line_setup.specs.declared.setup.Setup.{Setup}
 use Rattle.line.specs.Cells.{Lent, view}
-use Rattle.line.specs.Line.{definedAt, entryAt, entriesOf, coloursOf, lineOf}
+use Rattle.line.specs.Line.{definedAt, windowEntryAt, entriesOf, coloursOf, lineOf}
 use Rattle.line.proofs.Entries.{run-in-table}
-use Rattle.line_reads.specs.Reasons.{NoFrameReaches, NoEntryReaches, UndefinedAt, ComesTo, Reason, at-once, no-frame-entry, no-line-entry, undefined-entry}
+use Rattle.line_reads.specs.Reasons.{NoFrameServes, NoLineEntryServes, UndefinedAt, ComesTo, Reason, at-once, no-frame-entry, no-line-entry, undefined-entry}
 use Rattle.line_reads.proofs.Before.{never-colours, refused-unread, passes}
 use Rattle.line_reads.proofs.Parts.{both, Either, at-first, at-second, either, AllAnswer}
 use Rattle.line_reads.proofs.Passes.{StopsAt, each-stops}
@@ -70,7 +70,7 @@ module _ (setup : Setup) (lent : Lent) where
       -- at a pixel: 8 or 9
       for-pixel : (x : ℕ) {refusal : Numbered} → ComesTo setup lent x → run (view lent) (entering setup lent start x) ≡ refused refusal
           → RefusedPixel setup lent start x refusal → Reason setup lent refusal
-      unfolding entryAt
+      unfolding windowEntryAt
       for-pixel x comes stops (without-id lacks is place) =
           let none = id-unanswered (tableView (lent .table)) (setup .lengths .table) start x (lacks .none) in
           no-line-entry clear x comes
@@ -120,7 +120,7 @@ module _ (setup : Setup) (lent : Lent) where
   -- ---- a line that has a reason is refused so
 
   -- 7
-  frame-refuses : NoFrameReaches setup lent → run (view lent) (entriesOf setup) ≡ refused (numbered (NoFrameEntry (setup .y)))
+  frame-refuses : NoFrameServes setup lent → run (view lent) (entriesOf setup) ≡ refused (numbered (NoFrameEntry (setup .y)))
   unfolding entriesOf
   frame-refuses none =
       run-refused (view lent) (starting setup lent) _
@@ -141,8 +141,8 @@ module _ (setup : Setup) (lent : Lent) where
       stops
 
   -- 8
-  id-refuses : (x : ℕ) → ComesTo setup lent x → NoEntryReaches setup lent x → run (view lent) (entriesOf setup) ≡ refused (numbered (NoLineEntry x))
-  unfolding entryAt
+  id-refuses : (x : ℕ) → ComesTo setup lent x → NoLineEntryServes setup lent x → run (view lent) (entriesOf setup) ≡ refused (numbered (NoLineEntry x))
+  unfolding windowEntryAt
   id-refuses x comes none =
       pixel-decides (starts-found setup lent (none .starts)) x comes
       (run-refused (view lent) (identifying setup lent (none .start) x) _
@@ -152,7 +152,7 @@ module _ (setup : Setup) (lent : Lent) where
 
   -- 9
   entry-refuses : (x : ℕ) → ComesTo setup lent x → UndefinedAt setup lent x → run (view lent) (entriesOf setup) ≡ refused (numbered (UndefinedEntry x))
-  unfolding entryAt
+  unfolding windowEntryAt
   entry-refuses x comes at =
       let two = both (view lent) (starting setup lent) _ (at .has) in
       pixel-decides (two .found) x comes

@@ -8,14 +8,14 @@ use Rattle.rules.specs.Rule.{value}
 use Rattle.words.specs.Channels.{channelsOf}
 use Rattle.line_formats.specs.Table.{widthsOf}
 use Rattle.line_colour.specs.Shown.{shownOf}
-use Rattle.line_colour.specs.declared.entry.Entry.{Entry}
+use Rattle.line_colour.specs.declared.entry.WindowEntry.{WindowEntry}
 use Rattle.line_colour.specs.declared.entry.Shown.the-variants.{MapEntry}
 use Rattle.line_pixels.specs.Cells.{channelIn, PixelCell, glyph, cursorColour, overlayByte, sample, mapEntry, gamma}
 use Rattle.line_pixels.specs.Cursor.{glyphPlace, inGlyph, cursorAt}
 use Rattle.line_pixels.specs.Colour.{Layer, ofCursor, ofOverlay, ofNormal, skipsGamma, normalAt, overlayColours, overlayCounts, overlayAt}
 use Rattle.line_pixels.specs.declared.Screen.{Screen}
 
-module _ (memory : PixelCell → ℕ) (screen : Screen) (entry : Entry) (x : ℕ) where
+module _ (memory : PixelCell → ℕ) (screen : Screen) (entry : WindowEntry) (x : ℕ) where
   -- the cursor colour that shows, by glyph or cross-hair; 0 where the cursor is transparent
   abbrev pub cursorHere : ℕ
   cursorHere = value memory (cursorAt screen x)
@@ -33,14 +33,14 @@ module _ (memory : PixelCell → ℕ) (screen : Screen) (entry : Entry) (x : ℕ
   layerHere = cond (eqb cursorHere 0) (cond (eqb overlayHere 0) ofNormal ofOverlay) ofCursor
 
   -- the colour of a layer before gamma
-  abbrev pub colourIn : Layer → ℕ
-  colourIn ofCursor = memory (cursorColour cursorHere)
-  colourIn ofOverlay = memory (mapEntry (overlayColours + overlayHere))
-  colourIn ofNormal = value memory (normalAt (screen .depth) entry x)
+  abbrev pub colourOfLayer : Layer → ℕ
+  colourOfLayer ofCursor = memory (cursorColour cursorHere)
+  colourOfLayer ofOverlay = memory (mapEntry (overlayColours + overlayHere))
+  colourOfLayer ofNormal = value memory (normalAt (screen .depth) entry x)
 
   -- the colour before gamma, of the layer that shows
   abbrev pub beforeGamma : ℕ
-  beforeGamma = colourIn layerHere
+  beforeGamma = colourOfLayer layerHere
 
   -- whether it skips gamma
   abbrev pub skipsHere : Bool

@@ -7,7 +7,7 @@ use lib.ListN.{getD}
 use Rattle.words.specs.Field.{bits}
 use Rattle.line_formats.specs.Table.{widthsOf}
 use Rattle.line_colour.specs.Shown.{sampleOf}
-use Rattle.line_colour.specs.declared.entry.Entry.{Entry}
+use Rattle.line_colour.specs.declared.entry.WindowEntry.{WindowEntry}
 use Rattle.chip_registers.specs.Store.{stored}
 use Rattle.chip_registers.specs.declared.Block.{Block}
 use Rattle.chip_registers.specs.declared.Block.the-variants.{Control, WindowEntries, ColourMap, GammaMap, CursorGlyph, CursorColours}
@@ -49,17 +49,17 @@ module _ (setup : Setup) (lent : Lent) where
   screen = screenIn setup
 
   -- what the cells of colours hold
-  abbrev held : PixelCell → ℕ
-  held = pixelView (lent .store) (lent .normal) (lent .overlay)
+  abbrev colourCells : PixelCell → ℕ
+  colourCells = pixelView (lent .store) (lent .normal) (lent .overlay)
 
   -- it holds of every active pixel that has a window entry, and of that entry
-  abbrev pub EachPixel : (ℕ → Entry → Type 0) → Type 0
-  EachPixel Holds = (x : ℕ) → x < setup .controls .width → (entry : Entry) → HasEntry setup lent x entry → Holds x entry
+  abbrev pub EachPixel : (ℕ → WindowEntry → Type 0) → Type 0
+  EachPixel Holds = (x : ℕ) → x < setup .controls .width → (entry : WindowEntry) → HasEntry setup lent x entry → Holds x entry
 
   -- ---- rows
 
   -- the sample that a window entry chooses of pixel x of a normal row
-  abbrev pub chosen : List ℕ → ℕ → Entry → ℕ
+  abbrev pub chosen : List ℕ → ℕ → WindowEntry → ℕ
   chosen row x entry = sampleOf entry (pixelWord (setup .controls .depth) row x)
 
   -- another back buffer: of each pixel the sample that its window entry chooses is the same
@@ -67,7 +67,7 @@ module _ (setup : Setup) (lent : Lent) where
   SameChosen row = EachPixel (λ x entry. chosen (lent .normal) x entry ≡ chosen row x entry)
 
   -- the half of pixel x that holds the buffer that a window entry chooses
-  abbrev pub chosenHalf : List ℕ → ℕ → Entry → ℕ
+  abbrev pub chosenHalf : List ℕ → ℕ → WindowEntry → ℕ
   chosenHalf row x entry = bits (pixelWord (setup .controls .depth) row x) (entry .low) (setup .controls .depth / 2)
 
   -- the same of windows that each take half a pixel: the other half of every pixel may hold anything
@@ -80,19 +80,19 @@ module _ (setup : Setup) (lent : Lent) where
   abbrev pub SameUncovered : List ℕ → Type 0
   SameUncovered row =
       EachPixel (λ x entry.
-      cursorHere held screen entry x ≡ 0 → overlayHere held screen entry x ≡ 0
+      cursorHere colourCells screen entry x ≡ 0 → overlayHere colourCells screen entry x ≡ 0
       → pixelWord (setup .controls .depth) (lent .normal) x ≡ pixelWord (setup .controls .depth) row x)
 
   -- both at once: where cursor and overlay are transparent, the chosen sample is the same
   abbrev pub SameSeen : List ℕ → Type 0
   SameSeen row =
       EachPixel (λ x entry.
-      cursorHere held screen entry x ≡ 0 → overlayHere held screen entry x ≡ 0 → chosen (lent .normal) x entry ≡ chosen row x entry)
+      cursorHere colourCells screen entry x ≡ 0 → overlayHere colourCells screen entry x ≡ 0 → chosen (lent .normal) x entry ≡ chosen row x entry)
 
   -- other overlay bytes under an opaque cursor, or where overlay doesn't count
   abbrev pub SameOverlaid : List ℕ → Type 0
   SameOverlaid row =
-      EachPixel (λ x entry. cursorHere held screen entry x ≡ 0 → overlayCounts screen entry ≡ true → getD (lent .overlay) x 0 ≡ getD row x 0)
+      EachPixel (λ x entry. cursorHere colourCells screen entry x ≡ 0 → overlayCounts screen entry ≡ true → getD (lent .overlay) x 0 ≡ getD row x 0)
 
   -- ---- the table
 

@@ -5,7 +5,7 @@ use mathlib.Core.Bool.{true}
 use mathlib.Core.List.{List}
 use Rattle.rules.specs.Rule.{Outcome, ok, refused}
 use Rattle.rules.specs.Faults.{Numbered, placeIn}
-use Rattle.line_colour.specs.declared.entry.Entry.{Entry}
+use Rattle.line_colour.specs.declared.entry.WindowEntry.{WindowEntry}
 use Rattle.line_windows.specs.Table.{yend, lineTable, xend, windowId}
 use Rattle.line_windows.specs.Frame.{frameEntries}
 use Rattle.line_windows.specs.Ids.{lineEntries, entryByte}
@@ -24,7 +24,7 @@ module _ (setup : Setup) (lent : Lent) where
   pub record PixelListed (cell : PixelCell) : Type 0 where
     pub pixel : ℕ
     pub active : pixel < setup .controls .width
-    pub entry : Entry
+    pub entry : WindowEntry
     pub has : HasEntry setup lent pixel entry
     pub listed : ColourListed (λ (c : PixelCell). view lent (ofColour c)) (screenIn setup) entry pixel cell
 

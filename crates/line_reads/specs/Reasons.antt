@@ -6,10 +6,10 @@ use Rattle.rules.specs.Faults.{Numbered, Clear, First}
 use Rattle.refusals.specs.Refusal.{numbered}
 use Rattle.refusals.specs.declared.Refusal.the-variants.{NoFrameEntry, NoLineEntry, UndefinedEntry}
 use Rattle.line_colour.specs.Entry.{decoded}
-use Rattle.line_colour.specs.declared.entry.Entry.{Entry}
+use Rattle.line_colour.specs.declared.entry.WindowEntry.{WindowEntry}
 use Rattle.line_colour.specs.declared.entry.Decoded.the-variants.{Undefined}
 use Rattle.line_windows.specs.Table.{yend, tableView}
-use Rattle.line_windows.specs.Search.{NoneReaches}
+use Rattle.line_windows.specs.Search.{NoneServes}
 use Rattle.line_windows.specs.Frame.{frameEntries}
 use Rattle.line_windows.specs.Ids.{lineEntries, endOf}
 use Rattle.line_setup.specs.Faults.{lineFaults}
@@ -19,15 +19,15 @@ use Rattle.line_reads.specs.TableList.{StartsAt, HasId, HasEntry}
 
 module _ (setup : Setup) (lent : Lent) where
   -- 7: window IDs are on, and every frame entry ends before the line
-  pub record NoFrameReaches : Type 0 where
+  pub record NoFrameServes : Type 0 where
     pub on : setup .controls .ids ≡ true
-    pub none : NoneReaches (tableView (lent .table)) yend (frameEntries (setup .lengths .table)) (setup .y)
+    pub none : NoneServes (tableView (lent .table)) yend (frameEntries (setup .lengths .table)) (setup .y)
 
   -- 8 at x: window IDs are on, the line has a table, and every entry of that ends before x
-  pub record NoEntryReaches (x : ℕ) : Type 0 where
+  pub record NoLineEntryServes (x : ℕ) : Type 0 where
     pub start : ℕ
     pub starts : StartsAt setup lent start
-    pub none : NoneReaches (tableView (lent .table)) (endOf start) (lineEntries (setup .lengths .table) start) x
+    pub none : NoneServes (tableView (lent .table)) (endOf start) (lineEntries (setup .lengths .table) start) x
 
   -- 9 at x: the pixel has an ID, which is 0 where window IDs are off, and the ID's window entry is undefined at the depth
   pub record UndefinedAt (x : ℕ) : Type 0 where
@@ -38,11 +38,11 @@ module _ (setup : Setup) (lent : Lent) where
   -- a line that comes to pixel x: the pixel is active, and each one before it has a window entry that is defined
   pub record ComesTo (x : ℕ) : Type 0 where
     pub active : x < setup .controls .width
-    pub earlier : (i : ℕ) → i < x → (entry : Entry) × HasEntry setup lent i entry
+    pub earlier : (i : ℕ) → i < x → (entry : WindowEntry) × HasEntry setup lent i entry
 
   -- what a line is refused for: the first fault of those that need nothing read, or where there is none of them, 7, or 8 or 9 at the pixel that it comes to
   pub data Reason (refusal : Numbered) : Type 0 where
     at-once : First (lineFaults setup) refusal → Reason refusal
-    no-frame-entry : Clear (lineFaults setup) → NoFrameReaches → refusal ≡ numbered (NoFrameEntry (setup .y)) → Reason refusal
-    no-line-entry : Clear (lineFaults setup) → (x : ℕ) → ComesTo x → NoEntryReaches x → refusal ≡ numbered (NoLineEntry x) → Reason refusal
+    no-frame-entry : Clear (lineFaults setup) → NoFrameServes → refusal ≡ numbered (NoFrameEntry (setup .y)) → Reason refusal
+    no-line-entry : Clear (lineFaults setup) → (x : ℕ) → ComesTo x → NoLineEntryServes x → refusal ≡ numbered (NoLineEntry x) → Reason refusal
     undefined-entry : Clear (lineFaults setup) → (x : ℕ) → ComesTo x → UndefinedAt x → refusal ≡ numbered (UndefinedEntry x) → Reason refusal

@@ -3,13 +3,13 @@ use Prim.Native.Nat.{ℕ, suc, _≤_, _<_}
 use mathlib.Core.Path.{_≡_}
 use mathlib.Core.Bool.{true}
 use Rattle.rules.specs.Rule.{ok, run, _>>=_}
-use Rattle.line_colour.specs.declared.entry.Entry.{Entry}
+use Rattle.line_colour.specs.declared.entry.WindowEntry.{WindowEntry}
 use Rattle.line_windows.specs.Table.{yend, lineTable, xend, windowId, tableView}
 use Rattle.line_windows.specs.Frame.{frameOf, lineTableOf}
 use Rattle.line_windows.specs.Ids.{entryByte, lineEntryOf}
 use Rattle.line_setup.specs.declared.setup.Setup.{Setup}
 use Rattle.line.specs.Cells.{Cell, ofTable, windowEntry, ofColour, Lent, view}
-use Rattle.line.specs.Line.{startOf, idAt, entryAt}
+use Rattle.line.specs.Line.{startOf, idAt, windowEntryAt}
 
 module _ (setup : Setup) (lent : Lent) where
   -- the line's frame entry; where window IDs are off there is none
@@ -33,10 +33,10 @@ module _ (setup : Setup) (lent : Lent) where
       (startOf (setup .controls) (setup .lengths .table) (setup .y) >>= (λ start. idAt (setup .controls) (setup .lengths .table) start x)) ≡ ok id
 
   -- pixel x has this window entry, and it is defined
-  abbrev pub HasEntry : ℕ → Entry → Type 0
+  abbrev pub HasEntry : ℕ → WindowEntry → Type 0
   HasEntry x entry =
       run (view lent)
-      (startOf (setup .controls) (setup .lengths .table) (setup .y) >>= (λ start. entryAt (setup .controls) (setup .lengths .table) start x)) ≡ ok entry
+      (startOf (setup .controls) (setup .lengths .table) (setup .y) >>= (λ start. windowEntryAt (setup .controls) (setup .lengths .table) start x)) ≡ ok entry
 
   -- frame entries up to the one found; those before it count by their end alone
   pub record FrameListed (number : ℕ) : Type 0 where

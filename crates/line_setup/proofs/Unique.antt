@@ -2,12 +2,12 @@
 use mathlib.Core.Path.{sym, _∙_}
 use Rattle.rules.specs.Unique.{OneAnswer}
 use Rattle.rules.proofs.Unique.{by-equation}
-use Rattle.refusals.proofs.Known.{fit-known}
+use Rattle.refusals.proofs.Known.{answer-known}
 use Rattle.line_setup.proofs.controls.Controls.of.Reads as of
-use Rattle.line_setup.proofs.setup.Setup.fit.Reads as fit
+use Rattle.line_setup.proofs.setup.Setup.line_check.Reads as line-check
 
 pub of-unique : OneAnswer of.Post
 of-unique = by-equation _ _
 
-pub fit-unique : OneAnswer fit.Post
-fit-unique k args answer other exit exit′ says says′ = fit-known answer other (says ∙ sym says′)
+pub line-check-unique : OneAnswer line-check.Post
+line-check-unique k args answer other exit exit′ says says′ = answer-known answer other (says ∙ sym says′)

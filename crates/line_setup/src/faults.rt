@@ -3,11 +3,11 @@ ghost use Prim.Native.Nat.{_+_};
 ghost use mathlib.Core.Path.{_≡_};
 ghost use lib.Dec.{ltb};
 ghost use Rattle.rules.specs.Checked.{verdict};
-ghost use Rattle.refusals.specs.Refusal.{fitTold};
+ghost use Rattle.refusals.specs.Refusal.{answerOutcome};
 ghost use Rattle.line_setup.specs.Faults.{aboveTotal, normalLength, tableTooLong, overlayWrong, lengthFaults, lineFaults};
 use crate::controls::Controls;
 use crate::setup::Setup;
-use refusals::Fit;
+use refusals::Answer;
 use refusals::Refusal;
 
 // Whether an origin and a size go beyond a total.
@@ -61,42 +61,42 @@ impl Setup {
     }
 
     // The lengths, at the lowest place: 5.
-    fn lengths_fit(self) -> Fit
-        ensures { λ r. ⌜ fitTold r ≡ verdict (lengthFaults self) ⌝ }
+    fn lengths_check(self) -> Answer
+        ensures { λ r. ⌜ answerOutcome r ≡ verdict (lengthFaults self) ⌝ }
     {
         let controls = self.controls;
         if self.lengths.store != 4963 {
-            return Fit::Refused(Refusal::StoreLength);
+            return Answer::Refused(Refusal::StoreLength);
         }
         if self.table_too_long() {
-            return Fit::Refused(Refusal::TableLength);
+            return Answer::Refused(Refusal::TableLength);
         }
         if self.lengths.normal != controls.normal_length() {
-            return Fit::Refused(Refusal::NormalLength);
+            return Answer::Refused(Refusal::NormalLength);
         }
         if self.overlay_wrong() {
-            return Fit::Refused(Refusal::OverlayLength);
+            return Answer::Refused(Refusal::OverlayLength);
         }
         if self.lengths.output < controls.width as usize {
-            return Fit::Refused(Refusal::OutputLength);
+            return Answer::Refused(Refusal::OutputLength);
         }
-        Fit::Yes
+        Answer::Done
     }
 
     // 11, 10, 6, 5, in this order.
-    pub fn fit(self) -> Fit
-        ensures { λ r. ⌜ fitTold r ≡ verdict (lineFaults self) ⌝ }
+    pub fn line_check(self) -> Answer
+        ensures { λ r. ⌜ answerOutcome r ≡ verdict (lineFaults self) ⌝ }
     {
         let controls = self.controls;
         if !self.good {
-            return Fit::Refused(Refusal::BadState);
+            return Answer::Refused(Refusal::BadState);
         }
         if controls.above_total() {
-            return Fit::Refused(Refusal::AboveTotal);
+            return Answer::Refused(Refusal::AboveTotal);
         }
         if controls.height <= self.y {
-            return Fit::Refused(Refusal::BelowActive(self.y));
+            return Answer::Refused(Refusal::BelowActive(self.y));
         }
-        self.lengths_fit()
+        self.lengths_check()
     }
 }

@@ -10,7 +10,7 @@ use Rattle.rules.proofs.Then.{run-then, run-ok, run-refused, reads-ok, reads-re
 use Rattle.refusals.specs.Refusal.{numbered}
 use Rattle.refusals.specs.declared.Refusal.the-variants.{NoFrameEntry, NoLineEntry}
 use Rattle.line_windows.specs.Table.{TableCell, yend, lineTable}
-use Rattle.line_windows.specs.Search.{entryAt, NoneReaches}
+use Rattle.line_windows.specs.Search.{servingEntry, NoneServes}
 use Rattle.line_windows.specs.Frame.{frameEntries, frameOf, lineTableOf}
 use Rattle.line_windows.specs.Ids.{lineEntries, endOf, idCell, lineEntryOf, idOf}
 use Rattle.line_windows.proofs.Whole.{ReachedAt, whole-tells, whole-reads, none-named, none-tells, none-reads}
@@ -54,38 +54,38 @@ pub record Answered {R Q : Type 0} (memory : Q → ℕ) (look-up : Rule R Q ℕ)
 -- what it tells that a look-up refuses: every end is below `position`, and they are all read
 pub record Unanswered {R Q : Type 0} (memory : Q → ℕ) (look-up : Rule R Q ℕ) (missing : R) (end : ℕ → Q) (count position : ℕ) (refusal : R) : Type 0 where
   pub named : refusal ≡ missing
-  pub none : NoneReaches memory end count position
+  pub none : NoneServes memory end count position
   pub read : reads memory look-up ≡ values end count 0
 
 module _ {R Q : Type 0} (memory : Q → ℕ) (missing : R) (end value : ℕ → Q) (count position : ℕ) where
   -- the first entry whose end is at least `position`, and then one of its cells
   abbrev cellAt : Rule R Q ℕ
   cellAt = do
-    entry ← entryAt missing end count position
+    entry ← servingEntry missing end count position
     get (value entry)
 
   -- from an answer, what it tells
   cell-answered : {answer : ℕ} → run memory cellAt ≡ ok answer → Answered memory cellAt end value count position answer
   cell-answered e =
-      let from = answer-from memory (entryAt missing end count position) _ (λ entry. memory (value entry)) (λ entry. refl) e in
+      let from = answer-from memory (servingEntry missing end count position) _ (λ entry. memory (value entry)) (λ entry. refl) e in
       record {
         entry = from .entry;
         reached = whole-tells memory missing end count position (from .found);
         is = from .is;
         read =
-            reads-ok memory (entryAt missing end count position) _ (from .found)
+            reads-ok memory (servingEntry missing end count position) _ (from .found)
             ∙ ap (λ (cells : List Q). cells ++ (value (from .entry) ∷ [])) (whole-reads memory missing end count position (from .found));
       }
 
   -- from a refusal, what it tells
   cell-unanswered : {refusal : R} → run memory cellAt ≡ refused refusal → Unanswered memory cellAt missing end count position refusal
   cell-unanswered e =
-      let none = refusal-from memory (entryAt missing end count position) _ (λ entry. memory (value entry)) (λ entry. refl) e in
+      let none = refusal-from memory (servingEntry missing end count position) _ (λ entry. memory (value entry)) (λ entry. refl) e in
       record {
         named = none-named memory missing end count position none;
         none = none-tells memory missing end count position none;
         read =
-            reads-refused memory (entryAt missing end count position) _ none
+            reads-refused memory (servingEntry missing end count position) _ none
             ∙ none-reads memory missing end count position none;
       }
 

@@ -11,7 +11,7 @@ use Rattle.line_windows.specs.Table.{TableCell}
 use Rattle.line_windows.specs.Ids.{lineEntries, endOf, idCell, lineEntryFrom, idOf}
 use Rattle.line_windows.specs.Carried.{foundFrom}
 use Rattle.line_windows.specs.Inner.{PassedIds}
-use Rattle.line_windows.specs.declared.ids.Found.{Found}
+use Rattle.line_windows.specs.declared.ids.FoundId.{FoundId}
 use Rattle.line_windows.proofs.Search.{Reached, found-tells}
 use Rattle.line_windows.proofs.Whole.{whole-finds, same-entry, reached-whole, reached-passed, missing-whole}
 use Rattle.line_windows.proofs.Answers.{answer-from, refusal-from, id-of-entry, id-of-none}
@@ -21,11 +21,11 @@ pub passed-start : (memory : TableCell → ℕ) (start x : ℕ) → PassedIds me
 passed-start memory start x = record { passed = record { short = λ entry before. absurd (omega arith) } }
 
 -- what an entry serves: its ID, its last pixel, and the entry to go on from
-abbrev pub servedBy : (TableCell → ℕ) → ℕ → ℕ → Found
+abbrev pub servedBy : (TableCell → ℕ) → ℕ → ℕ → FoundId
 servedBy memory start entry = record { id = memory (idCell start entry); last = memory (endOf start entry); next = entry + 1 }
 
 -- what is found for pixel x serves: it is the ID of each pixel from x up to the last, and past that the look-up may go on from the next entry
-pub record Serves (memory : TableCell → ℕ) (length start x : ℕ) (found : Found) : Type 0 where
+pub record Serves (memory : TableCell → ℕ) (length start x : ℕ) (found : FoundId) : Type 0 where
   pub reaches : x ≤ found .last
   pub ids : (p : ℕ) → x ≤ p → p ≤ found .last → run memory (idOf length start p) ≡ ok (found .id)
   pub passed : PassedIds memory start (found .next) (found .last + 1)
@@ -55,7 +55,7 @@ module _ (memory : TableCell → ℕ) (length start from x : ℕ) where
     }
 
     -- where a look-up may go on from `from`, what it finds serves
-    pub found-serves : {found : Found} → run memory (foundFrom length start from x) ≡ ok found → Serves memory length start x found
+    pub found-serves : {found : FoundId} → run memory (foundFrom length start from x) ≡ ok found → Serves memory length start x found
     unfolding foundFrom
     found-serves e =
         let at = answer-from memory (lineEntryFrom length start from x) _ (servedBy memory start) (λ entry. refl) e in

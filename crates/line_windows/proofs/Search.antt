@@ -9,7 +9,7 @@ use Rattle.rules.specs.Rule.{Outcome, ok, refused, run, reads}
 use Rattle.rules.specs.Lists.{values}
 use Rattle.rules.proofs.Cases.{le-or-lt}
 use Rattle.rules.proofs.First.{found-from, missing-from}
-use Rattle.line_windows.specs.Search.{entryFrom}
+use Rattle.line_windows.specs.Search.{servingFrom}
 
 module _ {Q : Type 0} (memory : Q → ℕ) (end : ℕ → Q) where
   -- each entry from `first` on and before `last` ends below `position`
@@ -52,8 +52,8 @@ module _ {Q : Type 0} {memory : Q → ℕ} {end : ℕ → Q} {count from : ℕ} 
 
 module _ {R Q : Type 0} (memory : Q → ℕ) (missing : R) (end : ℕ → Q) (count from position : ℕ) where
   -- it answers the entry that is reached
-  pub found-tells : {entry : ℕ} → run memory (entryFrom missing end count from position) ≡ ok entry → Reached memory end count from position entry
-  unfolding entryFrom
+  pub found-tells : {entry : ℕ} → run memory (servingFrom missing end count from position) ≡ ok entry → Reached memory end count from position entry
+  unfolding servingFrom
   found-tells e =
       let found = found-from missing end (leb position) memory (count - from) from e in
       record {
@@ -64,44 +64,44 @@ module _ {R Q : Type 0} (memory : Q → ℕ) (missing : R) (end : ℕ → Q) (co
       }
 
   -- it has read the ends up to that of the entry
-  pub found-reads : {entry : ℕ} → run memory (entryFrom missing end count from position) ≡ ok entry
-      → reads memory (entryFrom missing end count from position) ≡ values end (suc (entry - from)) from
-  unfolding entryFrom
+  pub found-reads : {entry : ℕ} → run memory (servingFrom missing end count from position) ≡ ok entry
+      → reads memory (servingFrom missing end count from position) ≡ values end (suc (entry - from)) from
+  unfolding servingFrom
   found-reads e = found-from missing end (leb position) memory (count - from) from e .read
 
   -- it refuses only as it is told to
-  pub missing-named : {refusal : R} → run memory (entryFrom missing end count from position) ≡ refused refusal → refusal ≡ missing
-  unfolding entryFrom
+  pub missing-named : {refusal : R} → run memory (servingFrom missing end count from position) ≡ refused refusal → refusal ≡ missing
+  unfolding servingFrom
   missing-named e = missing-from missing end (leb position) memory (count - from) from e .named
 
   -- it refuses only where no entry is reached
-  pub missing-tells : {refusal : R} → run memory (entryFrom missing end count from position) ≡ refused refusal → Short memory end from count position
-  unfolding entryFrom
+  pub missing-tells : {refusal : R} → run memory (servingFrom missing end count from position) ≡ refused refusal → Short memory end from count position
+  unfolding servingFrom
   missing-tells e =
       let none = missing-from missing end (leb position) memory (count - from) from e in
       record { each = λ i low high. leb-false _ _ (none .failed i low (omega arith)) }
 
   -- it has then read every end
-  pub missing-reads : {refusal : R} → run memory (entryFrom missing end count from position) ≡ refused refusal
-      → reads memory (entryFrom missing end count from position) ≡ values end (count - from) from
-  unfolding entryFrom
+  pub missing-reads : {refusal : R} → run memory (servingFrom missing end count from position) ≡ refused refusal
+      → reads memory (servingFrom missing end count from position) ≡ values end (count - from) from
+  unfolding servingFrom
   missing-reads e = missing-from missing end (leb position) memory (count - from) from e .read
 
   -- where an entry is reached, it answers that
-  pub finds : {entry : ℕ} → Reached memory end count from position entry → run memory (entryFrom missing end count from position) ≡ ok entry
-  finds {entry} here = by (run memory (entryFrom missing end count from position)) refl
+  pub finds : {entry : ℕ} → Reached memory end count from position entry → run memory (servingFrom missing end count from position) ≡ ok entry
+  finds {entry} here = by (run memory (servingFrom missing end count from position)) refl
     where
-      by : (outcome : Outcome R ℕ) → run memory (entryFrom missing end count from position) ≡ outcome → outcome ≡ ok entry
+      by : (outcome : Outcome R ℕ) → run memory (servingFrom missing end count from position) ≡ outcome → outcome ≡ ok entry
       by (ok other) e =
           ap ok (let there = found-tells e in omega (arith, reached-monotone there here (omega arith), reached-monotone here there (omega arith)))
       by (refused refusal) e =
           absurd (omega (arith, missing-tells e .each entry (here .after) (here .below), here .reaches))
 
   -- where none is reached, it refuses
-  pub misses : Short memory end from count position → run memory (entryFrom missing end count from position) ≡ refused missing
-  misses none = by (run memory (entryFrom missing end count from position)) refl
+  pub misses : Short memory end from count position → run memory (servingFrom missing end count from position) ≡ refused missing
+  misses none = by (run memory (servingFrom missing end count from position)) refl
     where
-      by : (outcome : Outcome R ℕ) → run memory (entryFrom missing end count from position) ≡ outcome → outcome ≡ refused missing
+      by : (outcome : Outcome R ℕ) → run memory (servingFrom missing end count from position) ≡ outcome → outcome ≡ refused missing
       by (ok entry) e =
           let here = found-tells e in absurd (omega (arith, none .each entry (here .after) (here .below), here .reaches))
       by (refused refusal) e = ap refused (missing-named e)
@@ -120,10 +120,10 @@ module _ {Q : Type 0} {memory : Q → ℕ} {end : ℕ → Q} where
 
     module _ {R : Type 0} (missing : R) (count : ℕ) where
       -- any other end is the one searched for
-      pub search-found : at < count → position ≤ memory (end at) → run memory (entryFrom missing end count from position) ≡ ok at
+      pub search-found : at < count → position ≤ memory (end at) → run memory (servingFrom missing end count from position) ≡ ok at
       search-found more reaches =
           finds memory missing end count from position (record { after = here .after; below = more; reaches = reaches; short = here .short })
 
       -- after the last entry
-      pub search-over : count ≤ at → run memory (entryFrom missing end count from position) ≡ refused missing
+      pub search-over : count ≤ at → run memory (servingFrom missing end count from position) ≡ refused missing
       search-over all = misses memory missing end count from position (record { each = λ i low high. here .short .each i low (omega arith) })

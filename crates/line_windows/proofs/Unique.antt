@@ -9,7 +9,7 @@ use Rattle.line_windows.specs.Frame as frame-spec
 use Rattle.line_windows.specs.Carried as ids-spec
 use Rattle.line_windows.specs.declared.frame.LineTable.{LineTable}
 use Rattle.line_windows.specs.declared.frame.LineTable.the-variants.{Starts, Refused as TableRefused}
-use Rattle.line_windows.specs.declared.ids.Found.{Found}
+use Rattle.line_windows.specs.declared.ids.FoundId.{FoundId}
 use Rattle.line_windows.specs.declared.ids.LookedUp.{LookedUp}
 use Rattle.line_windows.specs.declared.ids.LookedUp.the-variants.{Id, Refused as IdRefused}
 use Rattle.line_windows.proofs.frame.line_table.Reads as line-table
@@ -31,24 +31,24 @@ table-answer (ok byte) = Starts byte
 table-answer (refused refusal) = TableRefused (refusalOf refusal)
 
 -- an answer is known by what it says
-table-back : (answer : LineTable) → table-answer (frame-spec.told answer) ≡ answer
+table-back : (answer : LineTable) → table-answer (frame-spec.lineTableOutcome answer) ≡ answer
 table-back (Starts byte) = refl
 table-back (TableRefused refusal) = ap TableRefused (known refusal)
 
 pub line-table-unique : OneAnswer line-table.Post
-line-table-unique = by-saying-and frame-spec.told table-answer table-back _ _ _
+line-table-unique = by-saying-and frame-spec.lineTableOutcome table-answer table-back _ _ _
 
 -- ---- IDs
 
 -- the answer that says so
-abbrev id-answer : Outcome Numbered Found → LookedUp
+abbrev id-answer : Outcome Numbered FoundId → LookedUp
 id-answer (ok found) = Id found
 id-answer (refused refusal) = IdRefused (refusalOf refusal)
 
 -- an answer is known by what it says
-id-back : (answer : LookedUp) → id-answer (ids-spec.told answer) ≡ answer
+id-back : (answer : LookedUp) → id-answer (ids-spec.lookUpOutcome answer) ≡ answer
 id-back (Id found) = refl
 id-back (IdRefused refusal) = ap IdRefused (known refusal)
 
 pub look-up-unique : OneAnswer look-up.Post
-look-up-unique = by-saying-and ids-spec.told id-answer id-back _ _ _
+look-up-unique = by-saying-and ids-spec.lookUpOutcome id-answer id-back _ _ _

@@ -7,19 +7,19 @@ use native.Mathlib.Omega.{arith}
 use Rattle.rules.specs.Rule.{ok, refused, run, reads}
 use Rattle.rules.specs.Lists.{values}
 use Rattle.rules.proofs.Cases.{le-or-lt}
-use Rattle.line_windows.specs.Search.{entryFrom, entryAt, NoneReaches}
+use Rattle.line_windows.specs.Search.{servingFrom, servingEntry, NoneServes}
 use Rattle.line_windows.proofs.Search.{Reached, Short, found-tells, found-reads, missing-named, missing-tells, missing-reads, finds, misses}
 
 -- of `count` entries `entry` is the first that reaches `position`
 pub record ReachedAt {Q : Type 0} (memory : Q → ℕ) (end : ℕ → Q) (count position entry : ℕ) : Type 0 where
   pub below : entry < count
   pub reaches : position ≤ memory (end entry)
-  pub earlier : NoneReaches memory end entry position
+  pub earlier : NoneServes memory end entry position
 
 -- ---- what the search answers
 
 module _ {R Q : Type 0} (memory : Q → ℕ) (missing : R) (end : ℕ → Q) (count position : ℕ) where
-  module _ {entry : ℕ} (found : run memory (entryAt missing end count position) ≡ ok entry) where
+  module _ {entry : ℕ} (found : run memory (servingEntry missing end count position) ≡ ok entry) where
     -- it answers the entry that is reached
     pub whole-tells : ReachedAt memory end count position entry
     whole-tells =
@@ -27,30 +27,30 @@ module _ {R Q : Type 0} (memory : Q → ℕ) (missing : R) (end : ℕ → Q) (co
         record { below = here .below; reaches = here .reaches; earlier = record { short = λ i high. here .short .each i (omega arith) high } }
 
     -- it has read the ends up to that of the entry
-    pub whole-reads : reads memory (entryAt missing end count position) ≡ values end (suc entry) 0
+    pub whole-reads : reads memory (servingEntry missing end count position) ≡ values end (suc entry) 0
     whole-reads = rw sub-zero at (found-reads memory missing end count 0 position found)
 
-  module _ {refusal : R} (none : run memory (entryAt missing end count position) ≡ refused refusal) where
+  module _ {refusal : R} (none : run memory (servingEntry missing end count position) ≡ refused refusal) where
     -- it refuses only as it is told to
     pub none-named : refusal ≡ missing
     none-named = missing-named memory missing end count 0 position none
 
     -- it refuses only where no entry is reached
-    pub none-tells : NoneReaches memory end count position
+    pub none-tells : NoneServes memory end count position
     none-tells = record { short = λ i high. missing-tells memory missing end count 0 position none .each i (omega arith) high }
 
     -- it has then read every end
-    pub none-reads : reads memory (entryAt missing end count position) ≡ values end count 0
+    pub none-reads : reads memory (servingEntry missing end count position) ≡ values end count 0
     none-reads = rw sub-zero at (missing-reads memory missing end count 0 position none)
 
   -- where an entry is reached, it answers that
-  pub whole-finds : {entry : ℕ} → ReachedAt memory end count position entry → run memory (entryAt missing end count position) ≡ ok entry
+  pub whole-finds : {entry : ℕ} → ReachedAt memory end count position entry → run memory (servingEntry missing end count position) ≡ ok entry
   whole-finds here =
       finds memory missing end count 0 position
       (record { after = omega arith; below = here .below; reaches = here .reaches; short = record { each = λ i low high. here .earlier .short i high } })
 
   -- where none is reached, it refuses
-  pub whole-misses : NoneReaches memory end count position → run memory (entryAt missing end count position) ≡ refused missing
+  pub whole-misses : NoneServes memory end count position → run memory (servingEntry missing end count position) ≡ refused missing
   whole-misses none = misses memory missing end count 0 position (record { each = λ i low high. none .short i high })
 
 -- ---- the entry reached
@@ -78,9 +78,9 @@ module _ {Q : Type 0} {memory : Q → ℕ} {end : ℕ → Q} {count : ℕ} where
 -- ---- from which entry it may go on
 
 -- none of the entries before `from` is reached, so that a search may start at `from`
-module _ {Q : Type 0} {memory : Q → ℕ} {end : ℕ → Q} {from position : ℕ} (passed : NoneReaches memory end from position) where
+module _ {Q : Type 0} {memory : Q → ℕ} {end : ℕ → Q} {from position : ℕ} (passed : NoneServes memory end from position) where
   -- and none of those behind it
-  none-joined : {last : ℕ} → Short memory end from last position → NoneReaches memory end last position
+  none-joined : {last : ℕ} → Short memory end from last position → NoneServes memory end last position
   none-joined behind =
       record { short = λ i high. ⊎-elim (λ above. behind .each i above high) (λ under. passed .short i under) (le-or-lt from i) }
 
@@ -90,7 +90,7 @@ module _ {Q : Type 0} {memory : Q → ℕ} {end : ℕ → Q} {from position : �
     reached-whole = record { below = here .below; reaches = here .reaches; earlier = none-joined (here .short) }
 
     -- and past its end a search may start at the entry after it
-    pub reached-passed : NoneReaches memory end (entry + 1) (memory (end entry) + 1)
+    pub reached-passed : NoneServes memory end (entry + 1) (memory (end entry) + 1)
     reached-passed =
         record {
           short = λ i high.
@@ -99,8 +99,8 @@ module _ {Q : Type 0} {memory : Q → ℕ} {end : ℕ → Q} {from position : �
         }
 
   -- the whole search refuses as the one from `from` on
-  pub missing-whole : {R : Type 0} (missing : R) (count : ℕ) {refusal : R} → run memory (entryFrom missing end count from position) ≡ refused refusal
-      → run memory (entryAt missing end count position) ≡ refused refusal
+  pub missing-whole : {R : Type 0} (missing : R) (count : ℕ) {refusal : R} → run memory (servingFrom missing end count from position) ≡ refused refusal
+      → run memory (servingEntry missing end count position) ≡ refused refusal
   missing-whole missing count e =
       rw (missing-named memory missing end count from position e)
       (whole-misses memory missing end count position (none-joined (missing-tells memory missing end count from position e)))

@@ -5,12 +5,12 @@ use Rattle.rules.specs.Faults.{Numbered}
 use Rattle.refusals.specs.Refusal.{numbered}
 use Rattle.line_windows.specs.Table.{TableCell}
 use Rattle.line_windows.specs.Ids.{endOf, idCell, lineEntryFrom}
-use Rattle.line_windows.specs.declared.ids.Found.{Found}
+use Rattle.line_windows.specs.declared.ids.FoundId.{FoundId}
 use Rattle.line_windows.specs.declared.ids.LookedUp.{LookedUp}
 use Rattle.line_windows.specs.declared.ids.LookedUp.the-variants.{Id, Refused}
 
 -- what the first entry, from entry `from` on, with xend ≥ x serves: its ID, its last pixel, and the entry to go on from after that
-unfoldable pub foundFrom : ℕ → ℕ → ℕ → ℕ → Rule Numbered TableCell Found
+unfoldable pub foundFrom : ℕ → ℕ → ℕ → ℕ → Rule Numbered TableCell FoundId
 foundFrom length start from x = do
   entry ← lineEntryFrom length start from x
   last ← get (endOf start entry)
@@ -18,9 +18,9 @@ foundFrom length start from x = do
   done (record { id = id; last = last; next = entry + 1 })
 
 -- what the look-up's answer says: what was found, or a refusal's number and values
-abbrev pub told : LookedUp → Outcome Numbered Found
-told (Id found) = ok found
-told (Refused refusal) = refused (numbered refusal)
+abbrev pub lookUpOutcome : LookedUp → Outcome Numbered FoundId
+lookUpOutcome (Id found) = ok found
+lookUpOutcome (Refused refusal) = refused (numbered refusal)
 
 -- an ID is one of 32
 abbrev pub idBelow : LookedUp → Type 0

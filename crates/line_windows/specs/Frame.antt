@@ -5,7 +5,7 @@ use Rattle.rules.specs.Faults.{Numbered}
 use Rattle.refusals.specs.Refusal.{numbered}
 use Rattle.refusals.specs.declared.Refusal.the-variants.{NoFrameEntry}
 use Rattle.line_windows.specs.Table.{TableCell, yend, lineTable}
-use Rattle.line_windows.specs.Search.{entryAt}
+use Rattle.line_windows.specs.Search.{servingEntry}
 use Rattle.line_windows.specs.declared.frame.LineTable.{LineTable}
 use Rattle.line_windows.specs.declared.frame.LineTable.the-variants.{Starts, Refused}
 
@@ -15,7 +15,7 @@ frameEntries length = min 2048 (length / 4)
 
 -- of the frame entries the first that ends at line y or later; none is 7
 abbrev pub frameOf : ℕ → ℕ → Rule Numbered TableCell ℕ
-frameOf length y = entryAt (numbered (NoFrameEntry y)) yend (frameEntries length) y
+frameOf length y = servingEntry (numbered (NoFrameEntry y)) yend (frameEntries length) y
 
 -- where its line table starts
 unfoldable pub lineTableOf : ℕ → ℕ → Rule Numbered TableCell ℕ
@@ -24,9 +24,9 @@ lineTableOf length y = do
   get (lineTable entry)
 
 -- what the look-up's answer says: the byte, or a refusal's number and values
-abbrev pub told : LineTable → Outcome Numbered ℕ
-told (Starts byte) = ok byte
-told (Refused refusal) = refused (numbered refusal)
+abbrev pub lineTableOutcome : LineTable → Outcome Numbered ℕ
+lineTableOutcome (Starts byte) = ok byte
+lineTableOutcome (Refused refusal) = refused (numbered refusal)
 
 -- a line table starts at one of the 65,536 bytes that a table can have
 abbrev pub startBelow : LineTable → Type 0

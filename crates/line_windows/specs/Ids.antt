@@ -5,7 +5,7 @@ use Rattle.rules.specs.Faults.{Numbered}
 use Rattle.refusals.specs.Refusal.{numbered}
 use Rattle.refusals.specs.declared.Refusal.the-variants.{NoLineEntry}
 use Rattle.line_windows.specs.Table.{TableCell, xend, windowId}
-use Rattle.line_windows.specs.Search.{entryFrom, entryAt}
+use Rattle.line_windows.specs.Search.{servingFrom, servingEntry}
 
 -- the byte behind the line table that starts at a byte: the 512-byte block that it starts in is over, or the table is
 abbrev pub lineTableEnd : ℕ → ℕ → ℕ
@@ -29,11 +29,11 @@ idCell start entry = windowId (entryByte start entry)
 
 -- of the line entries, from one on, the first that ends at pixel x or later; none is 8
 abbrev pub lineEntryFrom : ℕ → ℕ → ℕ → ℕ → Rule Numbered TableCell ℕ
-lineEntryFrom length start from x = entryFrom (numbered (NoLineEntry x)) (endOf start) (lineEntries length start) from x
+lineEntryFrom length start from x = servingFrom (numbered (NoLineEntry x)) (endOf start) (lineEntries length start) from x
 
 -- of all of them the first
 abbrev pub lineEntryOf : ℕ → ℕ → ℕ → Rule Numbered TableCell ℕ
-lineEntryOf length start x = entryAt (numbered (NoLineEntry x)) (endOf start) (lineEntries length start) x
+lineEntryOf length start x = servingEntry (numbered (NoLineEntry x)) (endOf start) (lineEntries length start) x
 
 -- the ID of pixel x: that of its line entry
 unfoldable pub idOf : ℕ → ℕ → ℕ → Rule Numbered TableCell ℕ

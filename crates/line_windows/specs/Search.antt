@@ -5,13 +5,13 @@ use Rattle.rules.specs.Rule.{Rule}
 use Rattle.rules.specs.First.{firstFrom}
 
 -- of `count` entries the first, from entry `from` on, whose end is at least `position`
-unfoldable pub entryFrom : {R Q : Type 0} → R → (ℕ → Q) → ℕ → ℕ → ℕ → Rule R Q ℕ
-entryFrom missing end count from position = firstFrom missing end (leb position) (count - from) from
+unfoldable pub servingFrom : {R Q : Type 0} → R → (ℕ → Q) → ℕ → ℕ → ℕ → Rule R Q ℕ
+servingFrom missing end count from position = firstFrom missing end (leb position) (count - from) from
 
 -- of all of them the first
-abbrev pub entryAt : {R Q : Type 0} → R → (ℕ → Q) → ℕ → ℕ → Rule R Q ℕ
-entryAt missing end count position = entryFrom missing end count 0 position
+abbrev pub servingEntry : {R Q : Type 0} → R → (ℕ → Q) → ℕ → ℕ → Rule R Q ℕ
+servingEntry missing end count position = servingFrom missing end count 0 position
 
 -- of `count` entries none reaches `position`: each ends before it
-pub record NoneReaches {Q : Type 0} (memory : Q → ℕ) (end : ℕ → Q) (count position : ℕ) : Type 0 where
+pub record NoneServes {Q : Type 0} (memory : Q → ℕ) (end : ℕ → Q) (count position : ℕ) : Type 0 where
   pub short : (entry : ℕ) → entry < count → memory (end entry) < position

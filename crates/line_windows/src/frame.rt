@@ -3,7 +3,7 @@ ghost use mathlib.Core.Path.{_≡_};
 ghost use lib.ListN.{length};
 ghost use Rattle.rules.specs.Rule.{run};
 ghost use Rattle.line_windows.specs.Table.{tableView};
-ghost use Rattle.line_windows.specs.Frame.{frameEntries, told, startBelow, lineTableOf};
+ghost use Rattle.line_windows.specs.Frame.{frameEntries, lineTableOutcome, startBelow, lineTableOf};
 use refusals::Refusal;
 
 // Where a line's table starts, or the refusal.
@@ -22,7 +22,7 @@ fn frame_entries(length: usize) -> usize
 
 // Where the line table of line y starts: the first frame entry that ends there or later says.
 pub fn line_table(table: &[u8], y: u32) -> LineTable
-    ensures { λ r. ⌜ (told r ≡ run (tableView (now (table .entry))) (lineTableOf (length (now (table .entry))) y)) × startBelow r ⌝ }
+    ensures { λ r. ⌜ (lineTableOutcome r ≡ run (tableView (now (table .entry))) (lineTableOf (length (now (table .entry))) y)) × startBelow r ⌝ }
 {
     let count = frame_entries(table.len());
     let mut entry = 0;

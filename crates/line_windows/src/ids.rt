@@ -4,11 +4,11 @@ ghost use lib.ListN.{length};
 ghost use Rattle.rules.specs.Rule.{run};
 ghost use Rattle.line_windows.specs.Table.{tableView};
 ghost use Rattle.line_windows.specs.Ids.{lineEntries};
-ghost use Rattle.line_windows.specs.Carried.{told, idBelow, foundFrom};
+ghost use Rattle.line_windows.specs.Carried.{lookUpOutcome, idBelow, foundFrom};
 use refusals::Refusal;
 
 // What a line entry serves: its ID, the last pixel that it serves, and the entry to go on from after that.
-pub struct Found {
+pub struct FoundId {
     pub id: u32,
     pub last: u32,
     pub next: usize,
@@ -16,7 +16,7 @@ pub struct Found {
 
 // A pixel's ID with what its entry serves, or the refusal.
 pub enum LookedUp {
-    Id(Found),
+    Id(FoundId),
     Refused(Refusal),
 }
 
@@ -38,7 +38,7 @@ fn line_entries(length: usize, start: usize) -> usize
 
 // The ID of pixel x in the line table at byte `start`: the first line entry, from entry `from` on, that ends there or later says.
 pub fn look_up(table: &[u8], start: usize, from: usize, x: u32) -> LookedUp
-    ensures { λ r. ⌜ (told r ≡ run (tableView (now (table .entry))) (foundFrom (length (now (table .entry))) start from x)) × idBelow r ⌝ }
+    ensures { λ r. ⌜ (lookUpOutcome r ≡ run (tableView (now (table .entry))) (foundFrom (length (now (table .entry))) start from x)) × idBelow r ⌝ }
 {
     let count = line_entries(table.len(), start);
     let mut entry = from;
@@ -46,7 +46,7 @@ pub fn look_up(table: &[u8], start: usize, from: usize, x: u32) -> LookedUp
         let word = words::be16(table, start + 2 * entry);
         let xend = words::field(word, 15, 5);
         if x <= xend {
-            return LookedUp::Id(Found {
+            return LookedUp::Id(FoundId {
                 id: words::field(word, 4, 0),
                 last: xend,
                 next: entry + 1,

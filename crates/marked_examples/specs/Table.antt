@@ -12,7 +12,7 @@ use Rattle.line_formats.specs.Channel.{widened}
 use Rattle.line_formats.specs.Table.{widthsOf}
 use Rattle.line_colour.specs.Entry.{bankOf, decoded}
 use Rattle.line_colour.specs.Shown.{sampleOf, shownOf}
-use Rattle.line_colour.specs.declared.entry.Entry.{Entry}
+use Rattle.line_colour.specs.declared.entry.WindowEntry.{WindowEntry}
 use Rattle.line_colour.specs.declared.entry.Decoded.the-variants.{Defined, Undefined}
 use Rattle.line_colour.specs.declared.entry.Shown.the-variants.{MapEntry}
 use Rattle.chip_registers.specs.Store.{stored}
@@ -51,7 +51,7 @@ mapWord store word = stored store (record { block = ColourMap; word = word })
 
 -- a window entry, with this bank, is defined at a depth
 abbrev pub DefinedAt : ℕ → ℕ → ℕ → Type 0
-DefinedAt depth word bank = (entry : Entry) × (decoded word depth ≡ Defined entry) × (entry .bank ≡ bank)
+DefinedAt depth word bank = (entry : WindowEntry) × (decoded word depth ≡ Defined entry) × (entry .bank ≡ bank)
 
 -- and one, with this bank, is not
 abbrev pub UndefinedAt : ℕ → ℕ → ℕ → Type 0
@@ -62,7 +62,7 @@ abbrev pub entryWith : ℕ → ℕ → ℕ → ℕ
 entryWith buffer format bank = buffer + 2 * format + 16 * bank
 
 -- under an entry pixel 0 of a row shows this map entry, whatever else is lent
-abbrev pub RowShows : ℕ → Entry → List ℕ → ℕ → Type 0
+abbrev pub RowShows : ℕ → WindowEntry → List ℕ → ℕ → Type 0
 RowShows depth entry bytes shown =
     (store more overlay : List ℕ)
     → Answers (pixelView store (bytes ++ more) overlay) (normalAt depth entry 0)
@@ -72,7 +72,7 @@ RowShows depth entry bytes shown =
 abbrev pub ShowsAt : ℕ → ℕ → ℕ → List ℕ → ℕ → Type 0
 ShowsAt depth word pixel bytes shown =
     (pixelWord depth bytes 0 ≡ pixel)
-    × (entry : Entry) × (decoded word depth ≡ Defined entry) × (shownOf entry (sampleOf entry pixel) ≡ MapEntry shown) × RowShows depth entry bytes shown
+    × (entry : WindowEntry) × (decoded word depth ≡ Defined entry) × (shownOf entry (sampleOf entry pixel) ≡ MapEntry shown) × RowShows depth entry bytes shown
 
 -- the ID of pixel x, by the line table at byte 0 of a table
 abbrev pub idIn : List ℕ → ℕ → Outcome Numbered ℕ
@@ -85,7 +85,7 @@ lineTableIn table y = run (tableView table) (lineTableOf (length table) y)
 -- where overlay counts and gamma is bypassed, an overlay byte shows this map entry, whatever else is lent
 abbrev pub OverlayShows : ℕ → ℕ → Type 0
 OverlayShows byte shown =
-    (store normal more : List ℕ) (screen : Screen) (entry : Entry) → overlayCounts screen entry ≡ true → entry .bypass ≡ true
+    (store normal more : List ℕ) (screen : Screen) (entry : WindowEntry) → overlayCounts screen entry ≡ true → entry .bypass ≡ true
     → Answers (pixelView store normal (byte ∷ more)) (underCursor screen entry 0) (overlayByte 0 ∷ mapEntry shown ∷ []) (mapWord store shown)
 
 -- every row of a table holds

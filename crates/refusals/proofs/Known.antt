@@ -5,11 +5,11 @@ use mathlib.Core.List.{List, [], _∷_}
 use lib.ListN.{getD}
 use Rattle.rules.specs.Rule.{Outcome, ok, refused}
 use Rattle.rules.specs.Faults.{Numbered, placeIn}
-use Rattle.refusals.specs.Refusal.{numbered, placeOf, fitTold}
+use Rattle.refusals.specs.Refusal.{numbered, refusalPlace, answerOutcome}
 use Rattle.refusals.specs.declared.Refusal.{Refusal}
 use Rattle.refusals.specs.declared.Refusal.the-variants.{NoRegister, ReadOnly, StrayBits, QueueFull, StoreLength, TableLength, NormalLength, OverlayLength, OutputLength, BelowActive, NoFrameEntry, NoLineEntry, UndefinedEntry, AboveTotal, BadState, WrongRecord, FileEnds, TooMuch}
-use Rattle.refusals.specs.declared.Fit.{Fit}
-use Rattle.refusals.specs.declared.Fit.the-variants.{Yes, Refused}
+use Rattle.refusals.specs.declared.Answer.{Answer}
+use Rattle.refusals.specs.declared.Answer.the-variants.{Done, Refused}
 
 -- the refusals of a wrong length, in the order of their places
 abbrev wrongLengths : List Refusal
@@ -61,7 +61,7 @@ known (FileEnds number) = refl
 known (TooMuch number) = refl
 
 -- every refusal has one value, its place
-pub one-value : (refusal : Refusal) → numbered refusal .values ≡ placeOf refusal ∷ []
+pub one-value : (refusal : Refusal) → numbered refusal .values ≡ refusalPlace refusal ∷ []
 one-value (NoRegister address) = refl
 one-value (ReadOnly address) = refl
 one-value (StrayBits address) = refl
@@ -81,16 +81,16 @@ one-value (WrongRecord number) = refl
 one-value (FileEnds number) = refl
 one-value (TooMuch number) = refl
 
--- whether a call may go on, where that is said
-abbrev fitOf : Outcome Numbered (Unit {0}) → Fit
-fitOf (ok done) = Yes
-fitOf (refused refusal) = Refused (refusalOf refusal)
+-- the answer that says so
+abbrev pub answerOf : Outcome Numbered (Unit {0}) → Answer
+answerOf (ok done) = Done
+answerOf (refused refusal) = Refused (refusalOf refusal)
 
--- it is known by what it says
-fit-back : (fit : Fit) → fitOf (fitTold fit) ≡ fit
-fit-back Yes = refl
-fit-back (Refused refusal) = ap Refused (known refusal)
+-- an answer is known by what it says
+pub answer-back : (answer : Answer) → answerOf (answerOutcome answer) ≡ answer
+answer-back Done = refl
+answer-back (Refused refusal) = ap Refused (known refusal)
 
 -- so two that say the same are the same
-pub fit-known : (fit other : Fit) → fitTold fit ≡ fitTold other → fit ≡ other
-fit-known fit other says = sym (fit-back fit) ∙ ap fitOf says ∙ fit-back other
+pub answer-known : (answer other : Answer) → answerOutcome answer ≡ answerOutcome other → answer ≡ other
+answer-known answer other says = sym (answer-back answer) ∙ ap answerOf says ∙ answer-back other

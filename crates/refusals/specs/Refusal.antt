@@ -6,8 +6,8 @@ use Rattle.rules.specs.Rule.{Outcome, ok, refused}
 use Rattle.rules.specs.Faults.{Numbered, Fault, placeIn}
 use Rattle.refusals.specs.declared.Refusal.{Refusal}
 use Rattle.refusals.specs.declared.Refusal.the-variants.{NoRegister, ReadOnly, StrayBits, QueueFull, StoreLength, TableLength, NormalLength, OverlayLength, OutputLength, BelowActive, NoFrameEntry, NoLineEntry, UndefinedEntry, AboveTotal, BadState, WrongRecord, FileEnds, TooMuch}
-use Rattle.refusals.specs.declared.Fit.{Fit}
-use Rattle.refusals.specs.declared.Fit.the-variants.{Yes, Refused}
+use Rattle.refusals.specs.declared.Answer.{Answer}
+use Rattle.refusals.specs.declared.Answer.the-variants.{Done, Refused}
 
 -- a number, with the place as the only value
 abbrev numberAt : ℕ → ℕ → Numbered
@@ -35,18 +35,18 @@ numbered (FileEnds number) = numberAt 13 number
 numbered (TooMuch number) = numberAt 14 number
 
 -- its number alone
-abbrev pub numberOf : Refusal → ℕ
-numberOf refusal = numbered refusal .number
+abbrev pub refusalNumber : Refusal → ℕ
+refusalNumber refusal = numbered refusal .number
 
 -- its place alone
-abbrev pub placeOf : Refusal → ℕ
-placeOf refusal = placeIn (numbered refusal)
+abbrev pub refusalPlace : Refusal → ℕ
+refusalPlace refusal = placeIn (numbered refusal)
 
 -- a fault that a call looks for: refused so where the test holds
 abbrev pub fault : Refusal → Bool → Fault
 fault refusal holds = record { holds = holds; refusal = numbered refusal }
 
--- whether a call may go on: it may, or a refusal's number and values
-abbrev pub fitTold : Fit → Outcome Numbered (Unit {0})
-fitTold Yes = ok tt
-fitTold (Refused refusal) = refused (numbered refusal)
+-- what the answer says: done, or a refusal's number and values
+abbrev pub answerOutcome : Answer → Outcome Numbered (Unit {0})
+answerOutcome Done = ok tt
+answerOutcome (Refused refusal) = refused (numbered refusal)

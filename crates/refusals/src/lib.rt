@@ -1,6 +1,6 @@
 // The refusals of every call on the chip and of a session's records, and the paper's number and place of each.
 ghost use mathlib.Core.Path.{_≡_};
-ghost use Rattle.refusals.specs.Refusal.{numberOf, placeOf};
+ghost use Rattle.refusals.specs.Refusal.{refusalNumber, refusalPlace};
 
 // Why a call is refused. NoRegister to QueueFull hold the address, 24 bits of it; BelowActive and NoFrameEntry the line; NoLineEntry and
 // UndefinedEntry the pixel; WrongRecord, FileEnds and TooMuch the record's number.
@@ -25,16 +25,16 @@ pub enum Refusal {
     TooMuch(u32),
 }
 
-// Whether a call may go on.
-pub enum Fit {
-    Yes,
+// What a call answers that has nothing to report: a write, a line, and every test whether a call may go on.
+pub enum Answer {
+    Done,
     Refused(Refusal),
 }
 
 impl Refusal {
     // Its number.
     pub fn number(self) -> u32
-        ensures { λ r. ⌜ r ≡ numberOf self ⌝ }
+        ensures { λ r. ⌜ r ≡ refusalNumber self ⌝ }
     {
         match self {
             Refusal::NoRegister(_) => 1,
@@ -60,7 +60,7 @@ impl Refusal {
 
     // Its place.
     pub fn place(self) -> u32
-        ensures { λ r. ⌜ r ≡ placeOf self ⌝ }
+        ensures { λ r. ⌜ r ≡ refusalPlace self ⌝ }
     {
         match self {
             Refusal::NoRegister(address) => address,

@@ -4,10 +4,10 @@ use mathlib.Core.Bool.{Bool, true, false, cond}
 use mathlib.Core.List.{List}
 use lib.Dec.{leb}
 use lib.ListN.{length}
-use Rattle.session_listing.specs.Text.{Listed, text}
+use Rattle.session_listing.specs.Text.{EntrySays, text}
 use Rattle.session_listing.specs.Room.{roomFor, placed}
 use Rattle.session_answers.specs.Answers.{over}
-use Rattle.session_answers.specs.declared.Answer.{Answer}
+use Rattle.session_answers.specs.declared.StepAnswer.{StepAnswer}
 use Rattle.replay.specs.declared.course.Going.{Going}
 use Rattle.replay.specs.declared.course.Going.the-variants.{On, Over, Unread, Unwritten}
 use Rattle.replay.specs.declared.course.Course.{Course}
@@ -36,15 +36,15 @@ goesOn Unread = false
 goesOn Unwritten = false
 
 -- on at the next record, or over with an answer
-abbrev pub movedBy : Answer → ℕ → Course → Course
+abbrev pub movedBy : StepAnswer → ℕ → Course → Course
 movedBy answer place course = cond (over answer) (ended (withFrom course place) Over) (withFrom course place)
 
 -- an entry's text behind the text that waits
-abbrev pub putBehind : Listed → List ℕ → List ℕ → Course → Course × List ℕ
+abbrev pub putBehind : EntrySays → List ℕ → List ℕ → Course → Course × List ℕ
 putBehind entry output lent course =
     let bytes = text entry output in
     (withPut course (course .put + length bytes), placed lent (course .put) bytes)
 
 -- there is room for it
-abbrev pub hasRoom : Listed → List ℕ → List ℕ → Course → Bool
+abbrev pub hasRoom : EntrySays → List ℕ → List ℕ → Course → Bool
 hasRoom entry output lent course = leb (course .put + roomFor entry output) (length lent)

@@ -9,24 +9,24 @@ use crate::input::read_on;
 use crate::rooms;
 use crate::text::put_entry;
 use crate::text::write_out;
-use session_answers::Answer;
-use session_answers::Shows;
 use session::session::Session;
 use session::step::Stepped;
 use session::step::step;
+use session_answers::Adds;
+use session_answers::StepAnswer;
 
 // Lists what an answer shows.
-fn listed(answer: Answer, output: &[u32], text: &mut [u8], course: Course) -> Course
+fn listed(answer: StepAnswer, output: &[u32], text: &mut [u8], course: Course) -> Course
     ensures { λ r. ⌜ r .to ≡ course .to ⌝ }
 {
-    match answer.shows() {
-        Shows::Entry(entry) => put_entry(entry, output, text, course),
-        Shows::Nothing => course,
+    match answer.adds() {
+        Adds::One(entry) => put_entry(entry, output, text, course),
+        Adds::Nothing => course,
     }
 }
 
 // On at the next record, or over with this answer.
-fn moved(answer: Answer, place: usize, course: Course) -> Course
+fn moved(answer: StepAnswer, place: usize, course: Course) -> Course
     ensures { λ r. ⌜ r ≡ movedBy answer place course ⌝ }
 {
     let next = course.with_from(place);
@@ -38,7 +38,7 @@ fn moved(answer: Answer, place: usize, course: Course) -> Course
 
 // Moves on by a step's answer, lists what it shows, and reads on where it waits for more bytes.
 fn answered(
-    answer: Answer,
+    answer: StepAnswer,
     place: usize,
     file: i32,
     input: &mut [u8],
@@ -50,7 +50,7 @@ fn answered(
     ensures { λ r. ⌜ r .to ≤ length (now (input .exit)) ⌝ }
 {
     let next = listed(answer, output, text, moved(answer, place, course));
-    if let Answer::More = answer {
+    if let StepAnswer::More = answer {
         return read_on(file, input, next);
     }
     next
@@ -70,7 +70,7 @@ fn steps(
     let mut stepped = Stepped {
         session: Session::new(),
         place: 0,
-        answer: Answer::More,
+        answer: StepAnswer::More,
     };
     let mut course = Course::start();
     let mut turns = u64::MAX;

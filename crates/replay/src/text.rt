@@ -1,12 +1,12 @@
 // Text of the listing, which waits until there is much of it.
 ghost use mathlib.Core.Bool.{true};
 ghost use mathlib.Core.Path.{_≡_};
-ghost use Rattle.session_listing.specs.Text.{said};
+ghost use Rattle.session_listing.specs.Text.{entrySays};
 ghost use Rattle.replay.specs.Run.{putBehind, hasRoom};
 use crate::course::Course;
 use crate::course::Going;
 use libc::STDOUT_FILENO;
-use session_listing::entry::Entry;
+use session_listing::entry::ListingEntry;
 use session_listing::render::Rendered;
 use session_listing::render::render;
 
@@ -19,7 +19,7 @@ pub(crate) fn write_out(text: &[u8], put: usize) -> bool {
 }
 
 // An entry's text goes to the front, where there is room for each.
-fn put_first(entry: Entry, output: &[u32], text: &mut [u8], course: Course) -> Course
+fn put_first(entry: ListingEntry, output: &[u32], text: &mut [u8], course: Course) -> Course
     ensures { λ r. ⌜ r .to ≡ course .to ⌝ }
 {
     match render(entry, output, text, 0) {
@@ -29,8 +29,13 @@ fn put_first(entry: Entry, output: &[u32], text: &mut [u8], course: Course) -> C
 }
 
 // An entry's text goes behind the text that waits, which is written out first where it leaves no room.
-pub(crate) fn put_entry(entry: Entry, output: &[u32], text: &mut [u8], course: Course) -> Course
-    ensures { λ r. ⌜ (r .to ≡ course .to) × (hasRoom (said entry) (now (output .entry)) (now (text .entry)) course ≡ true → (r, now (text .exit)) ≡ putBehind (said entry) (now (output .entry)) (now (text .entry)) course) ⌝ }
+pub(crate) fn put_entry(
+    entry: ListingEntry,
+    output: &[u32],
+    text: &mut [u8],
+    course: Course,
+) -> Course
+    ensures { λ r. ⌜ (r .to ≡ course .to) × (hasRoom (entrySays entry) (now (output .entry)) (now (text .entry)) course ≡ true → (r, now (text .exit)) ≡ putBehind (entrySays entry) (now (output .entry)) (now (text .entry)) course) ⌝ }
 {
     let put = course.put;
     match render(entry, output, text, put) {

@@ -9,9 +9,9 @@ use Rattle.rules.specs.Faults.{Numbered}
 use Rattle.chip.specs.Write.{written}
 use Rattle.chip.specs.Dots.{ran}
 use Rattle.session_records.specs.declared.record.Record.the-variants.{End, Write, Dots, Table, Normal, Overlay, Line}
-use Rattle.session_listing.specs.Text.{line}
-use Rattle.session_listing.specs.Text.{ok as done}
-use Rattle.session_answers.specs.Came.{Came, listed, ended}
+use Rattle.session_listing.specs.Text.{saysLine}
+use Rattle.session_listing.specs.Text.{saysOk}
+use Rattle.session_answers.specs.Status.{Status, listed, ended}
 use Rattle.line_setup.specs.Controls.{controlsOf}
 use Rattle.line.specs.Cells.{lentOf}
 use Rattle.line.specs.Drawn.{drawn}
@@ -23,11 +23,11 @@ use Rattle.session.proofs.Rooms.{back, back-chip, back-line, back-table
 
 -- what is left, and what it comes to
 abbrev Result : Type 0
-Result = (Session × Rooms) × Outcome Numbered Came
+Result = (Session × Rooms) × Outcome Numbered Status
 
 module _ (session : Session) (rooms : Rooms) (body : List ℕ) (within : Within session rooms) where
   -- left so, and come to this
-  abbrev come-to : Came → Session × Rooms → Result
+  abbrev come-to : Status → Session × Rooms → Result
   come-to came left = (left, ok came)
 
   -- the end record
@@ -36,20 +36,20 @@ module _ (session : Session) (rooms : Rooms) (body : List ℕ) (within : Within 
   acts-end = ap (come-to ended) (sym (back session rooms within))
 
   -- what a call on the chip left in the store is in the rooms
-  abbrev stored : (Session × List ℕ) × Outcome Numbered Came → Result
+  abbrev stored : (Session × List ℕ) × Outcome Numbered Status → Result
   stored left = ((left .0 .0, roomsOf (left .0 .1) (rooms .table) (rooms .normal) (rooms .overlay) (rooms .output)), left .1)
 
   -- a write
-  pub acts-write : (address value : ℕ) {left : (Session × List ℕ) × Outcome Numbered Came}
-      → left ≡ askedIn session done (written (session .state, rooms .store) address value)
+  pub acts-write : (address value : ℕ) {left : (Session × List ℕ) × Outcome Numbered Status}
+      → left ≡ askedIn session saysOk (written (session .state, rooms .store) address value)
       → stored left ≡ actedIn session rooms (Write address value) body
   unfolding actedIn
   acts-write address value is =
       let after = written (session .state, rooms .store) address value in
-      ap stored is ∙ ap (come-to (listed (entryOf done (after .1)))) (sym (back-chip session rooms within (after .0)))
+      ap stored is ∙ ap (come-to (listed (entryOf saysOk (after .1)))) (sym (back-chip session rooms within (after .0)))
 
   -- some dots
-  pub acts-dots : (count : ℕ) {left : (Session × List ℕ) × Outcome Numbered Came}
+  pub acts-dots : (count : ℕ) {left : (Session × List ℕ) × Outcome Numbered Status}
       → left ≡ askedIn session (atPosition (ran (session .state, rooms .store) count .0 .0 .at)) (ran (session .state, rooms .store) count)
       → stored left ≡ actedIn session rooms (Dots count) body
   unfolding actedIn
@@ -59,48 +59,48 @@ module _ (session : Session) (rooms : Rooms) (body : List ℕ) (within : Within 
 
   -- table bytes
   pub acts-table :
-      come-to (listed done) (
+      come-to (listed saysOk) (
         counted (withCounts session (session .table + length body) (session .normal) (session .overlay)),
         roomsOf (rooms .store) (paste (rooms .table) (session .table) body (length body)) (rooms .normal) (rooms .overlay) (rooms .output),
       )
       ≡ actedIn session rooms Table body
   unfolding actedIn
-  acts-table = ap (come-to (listed done)) (sym (back-table session rooms within body))
+  acts-table = ap (come-to (listed saysOk)) (sym (back-table session rooms within body))
 
   -- a normal row
   pub acts-normal :
-      come-to (listed done) (
+      come-to (listed saysOk) (
         counted (withCounts session (session .table) (length body) (session .overlay)),
         roomsOf (rooms .store) (rooms .table) (paste (rooms .normal) 0 body (length body)) (rooms .overlay) (rooms .output),
       )
       ≡ actedIn session rooms Normal body
   unfolding actedIn
-  acts-normal = ap (come-to (listed done)) (sym (back-normal session rooms within body))
+  acts-normal = ap (come-to (listed saysOk)) (sym (back-normal session rooms within body))
 
   -- an overlay row
   pub acts-overlay :
-      come-to (listed done) (
+      come-to (listed saysOk) (
         counted (withCounts session (session .table) (session .normal) (length body)),
         roomsOf (rooms .store) (rooms .table) (rooms .normal) (paste (rooms .overlay) 0 body (length body)) (rooms .output),
       )
       ≡ actedIn session rooms Overlay body
   unfolding actedIn
-  acts-overlay = ap (come-to (listed done)) (sym (back-overlay session rooms within body))
+  acts-overlay = ap (come-to (listed saysOk)) (sym (back-overlay session rooms within body))
 
   -- what a line left in the output is in the rooms
-  abbrev shown : (Session × List ℕ) × Outcome Numbered Came → Result
+  abbrev shown : (Session × List ℕ) × Outcome Numbered Status → Result
   shown left = ((left .0 .0, roomsOf (rooms .store) (rooms .table) (rooms .normal) (rooms .overlay) (left .0 .1)), left .1)
 
   -- a line
-  pub acts-line : (y : ℕ) {left : (Session × List ℕ) × Outcome Numbered Came}
+  pub acts-line : (y : ℕ) {left : (Session × List ℕ) × Outcome Numbered Status}
       → let held = heldIn session rooms in
       let after = drawn (session .state) y (lentOf (rooms .store) (held .table) (held .normal) (held .overlay)) (rooms .output) in
-      left ≡ askedIn session (line y (controlsOf (session .state .control) .width)) after
+      left ≡ askedIn session (saysLine y (controlsOf (session .state .control) .width)) after
       → shown left ≡ actedIn session rooms (Line y) body
   unfolding actedIn
   acts-line y is =
       let held = heldIn session rooms in
       let after = drawn (session .state) y (lentOf (rooms .store) (held .table) (held .normal) (held .overlay)) (rooms .output) in
       ap shown is
-      ∙ ap (come-to (listed (entryOf (line y (controlsOf (session .state .control) .width)) (after .1))))
+      ∙ ap (come-to (listed (entryOf (saysLine y (controlsOf (session .state .control) .width)) (after .1))))
       (sym (back-line session rooms within (after .0 .0, rooms .store) (after .0 .1)))

@@ -17,23 +17,23 @@ use Rattle.rules.proofs.Checked.{first-verdict, clear-verdict}
 use Rattle.refusals.specs.Refusal.{numbered}
 use Rattle.refusals.specs.declared.Refusal.{Refusal}
 use Rattle.session_records.specs.Parts.{lengthOf, bodyOf}
-use Rattle.session_records.specs.Found.{found}
+use Rattle.session_records.specs.RecordAt.{recordAt}
 use Rattle.session_records.specs.Tags.{longestTable, longestNormal, longestOverlay}
 use Rattle.session_records.specs.declared.record.Record.{Record}
 use Rattle.session_records.specs.declared.record.Record.the-variants.{End, Write, Dots, Table, Normal, Overlay, Line}
 use Rattle.session_records.specs.declared.record.Context.{Context}
-use Rattle.session_records.specs.declared.record.Found.{Found}
-use Rattle.session_records.specs.declared.record.Found.the-variants.{Is, More, Refused}
+use Rattle.session_records.specs.declared.record.RecordAt.{RecordAt}
+use Rattle.session_records.specs.declared.record.RecordAt.the-variants.{Is, More, Refused}
 use Rattle.session_records.proofs.Tests.{neither}
 use Rattle.session_records.proofs.Behind.{judgedAt}
 use Rattle.session_records.proofs.Limits.{table-fits, normal-fits, overlay-fits}
-use Rattle.session_answers.specs.Came.{Came, waits, stopped}
+use Rattle.session_answers.specs.Status.{Status, needsMore, stopped}
 use Rattle.session_rooms.specs.Rooms.{tooMuchHeld, roomFaults}
 use Rattle.session.specs.Held.{Held}
-use Rattle.session.specs.Record.{cameBy, contextOf, stepped}
+use Rattle.session.specs.Record.{statusBy, contextOf, stepped}
 use Rattle.session.specs.Lent.{Rooms, heldIn, leftIn}
 use Rattle.session.specs.Step.{stepFaults, Left, afterStep, sessionStep}
-use Rattle.session.specs.Inner.{Within, Fits, actedIn}
+use Rattle.session.specs.Inner.{Within, BodyFits, actedIn}
 use Rattle.session.specs.declared.session.Session.{Session}
 use Rattle.session.proofs.Rooms.{table-count, back}
 
@@ -102,7 +102,7 @@ module _ (session : Session) (rooms : Rooms) (last : Bool) where
 
   module _ (fit : Fitted session rooms) (unread : List ℕ) where
     -- there is room for the body of each record
-    pub fits : (which : Record) (count : ℕ) (body : List ℕ) → found judgedBy unread ≡ Is which count → length body ≡ count → Fits session rooms which body
+    pub fits : (which : Record) (count : ℕ) (body : List ℕ) → recordAt judgedBy unread ≡ Is which count → length body ≡ count → BodyFits session rooms which body
     fits End count body is long = tt
     fits (Write address value) count body is long = tt
     fits (Dots dots) count body is long = tt
@@ -136,15 +136,15 @@ module _ (session : Session) (rooms : Rooms) (bytes : List ℕ) (place : ℕ) (l
   left-after taken left = ((left .0, place + taken), left .1)
 
   -- what was found by the code's context was found by the session's
-  same-found : Within session rooms → found (contextOf (heldIn session rooms) last) (drop place bytes) ≡ found (judgedBy session rooms last) (drop place bytes)
+  same-found : Within session rooms → recordAt (contextOf (heldIn session rooms) last) (drop place bytes) ≡ recordAt (judgedBy session rooms last) (drop place bytes)
   same-found inside =
-      ap (λ (table : ℕ). found (judgedAt (session .records) table last) (drop place bytes)) (table-count session rooms inside)
+      ap (λ (table : ℕ). recordAt (judgedAt (session .records) table last) (drop place bytes)) (table-count session rooms inside)
 
   -- what comes of what was found
-  came : (answer : Found) → Within session rooms → found (judgedBy session rooms last) (drop place bytes) ≡ answer
-      → stepped last (heldIn session rooms) (drop place bytes) ≡ cameBy (heldIn session rooms) (drop place bytes) answer
+  came : (answer : RecordAt) → Within session rooms → recordAt (judgedBy session rooms last) (drop place bytes) ≡ answer
+      → stepped last (heldIn session rooms) (drop place bytes) ≡ statusBy (heldIn session rooms) (drop place bytes) answer
   unfolding stepped
-  came answer inside is = ap (cameBy (heldIn session rooms) (drop place bytes)) (same-found inside ∙ is)
+  came answer inside is = ap (statusBy (heldIn session rooms) (drop place bytes)) (same-found inside ∙ is)
 
   -- nothing is taken and all is as it was
   nothing-taken : Within session rooms → left-after 0 (leftIn rooms (heldIn session rooms)) ≡ before
@@ -153,23 +153,23 @@ module _ (session : Session) (rooms : Rooms) (bytes : List ℕ) (place : ℕ) (l
       ∙ ap (λ (next : ℕ). ((session, next), rooms)) (add-zero place)
 
   -- what a step leaves and answers, by what it comes to
-  abbrev left-by : (Held × ℕ) × Came → Left × Outcome Numbered Came
+  abbrev left-by : (Held × ℕ) × Status → Left × Outcome Numbered Status
   left-by step = (left-after (step .0 .1) (leftIn rooms (step .0 .0)), ok (step .1))
 
   module _ (passed : verdict (stepFaults session rooms) ≡ ok tt) where
     -- what it found decides
-    step-by : (answer : Found) → found (judgedBy session rooms last) (drop place bytes) ≡ answer
-        → sessionStep session rooms bytes place last ≡ left-by (cameBy (heldIn session rooms) (drop place bytes) answer)
+    step-by : (answer : RecordAt) → recordAt (judgedBy session rooms last) (drop place bytes) ≡ answer
+        → sessionStep session rooms bytes place last ≡ left-by (statusBy (heldIn session rooms) (drop place bytes) answer)
     unfolding afterStep
     step-by answer is = step-done passed ∙ ap left-by (came answer (within (fitted session rooms passed)) is)
 
     -- the bytes end within a record, and the file goes on
-    pub step-waits : found (judgedBy session rooms last) (drop place bytes) ≡ More → (before, ok waits) ≡ sessionStep session rooms bytes place last
+    pub step-waits : recordAt (judgedBy session rooms last) (drop place bytes) ≡ More → (before, ok needsMore) ≡ sessionStep session rooms bytes place last
     step-waits is =
-        sym (step-by More is ∙ ap (λ (left : Left). (left, ok waits)) (nothing-taken (within (fitted session rooms passed))))
+        sym (step-by More is ∙ ap (λ (left : Left). (left, ok needsMore)) (nothing-taken (within (fitted session rooms passed))))
 
     -- a fault of the file
-    pub step-stops : (refusal : Refusal) → found (judgedBy session rooms last) (drop place bytes) ≡ Refused refusal
+    pub step-stops : (refusal : Refusal) → recordAt (judgedBy session rooms last) (drop place bytes) ≡ Refused refusal
         → (before, ok (stopped (numbered refusal))) ≡ sessionStep session rooms bytes place last
     step-stops refusal is =
         sym
@@ -177,12 +177,12 @@ module _ (session : Session) (rooms : Rooms) (bytes : List ℕ) (place : ℕ) (l
         ∙ ap (λ (left : Left). (left, ok (stopped (numbered refusal)))) (nothing-taken (within (fitted session rooms passed))))
 
     -- a record, whose body was lent so
-    pub step-acts : (which : Record) (count : ℕ) → found (judgedBy session rooms last) (drop place bytes) ≡ Is which count
+    pub step-acts : (which : Record) (count : ℕ) → recordAt (judgedBy session rooms last) (drop place bytes) ≡ Is which count
         → (body : List ℕ) → body ≡ bodyOf (drop place bytes)
-        → {left : (Session × Rooms) × Outcome Numbered Came} → left ≡ actedIn session rooms which body
+        → {left : (Session × Rooms) × Outcome Numbered Status} → left ≡ actedIn session rooms which body
         → (left-after (3 + count) (left .0), left .1) ≡ sessionStep session rooms bytes place last
     unfolding actedIn
     step-acts which count is body body-is left-is =
-        ap (λ (left : (Session × Rooms) × Outcome Numbered Came). (left-after (3 + count) (left .0), left .1))
+        ap (λ (left : (Session × Rooms) × Outcome Numbered Status). (left-after (3 + count) (left .0), left .1))
         (left-is ∙ ap (λ (body : List ℕ). actedIn session rooms which body) body-is)
         ∙ sym (step-by (Is which count) is)

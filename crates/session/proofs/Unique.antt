@@ -4,9 +4,9 @@ use mathlib.Core.Path.{ap, _∙_}
 use denote.Ref.{now}
 use Rattle.rules.specs.Unique.{OneAnswer, OneOutcome}
 use Rattle.rules.proofs.Unique.{by-equation, by-outcome}
-use Rattle.session_answers.specs.Came.{told}
-use Rattle.session_answers.specs.declared.Answer.{Answer}
-use Rattle.session_answers.proofs.Known.{answer-known}
+use Rattle.session_answers.specs.Status.{stepOutcome}
+use Rattle.session_answers.specs.declared.StepAnswer.{StepAnswer}
+use Rattle.session_answers.proofs.Known.{step-answer-known}
 use Rattle.session.specs.Lent.{roomsOf}
 use Rattle.session.specs.declared.session.Session.{Session}
 use Rattle.session.specs.declared.step.Stepped.{Stepped}
@@ -20,10 +20,10 @@ pub step-unique : OneOutcome
     (λ k exit. roomsOf (now (exit .1 .1 .1 .1 .0)) (now (exit .1 .1 .1 .1 .1 .0)) (now (exit .1 .1 .1 .1 .1 .1 .0)) (now (exit .1 .1 .1 .1 .1 .1 .1 .0)) (now (exit .1 .1 .1 .1 .1 .1 .1 .1 .0)))
     step.Post
 step-unique =
-    by-outcome (λ k (r : Stepped). (r .session, r .place)) (λ k (r : Stepped). told (r .answer))
+    by-outcome (λ k (r : Stepped). (r .session, r .place)) (λ k (r : Stepped). stepOutcome (r .answer))
     (λ k (r : Stepped) (r′ : Stepped) lefts says.
     ap (λ (left : Session × ℕ). record { session = left .0; place = left .1; answer = r .answer }) lefts
-    ∙ ap (λ (answer : Answer). record { session = r′ .session; place = r′ .place; answer = answer }) (answer-known (r .answer) (r′ .answer) says))
+    ∙ ap (λ (answer : StepAnswer). record { session = r′ .session; place = r′ .place; answer = answer }) (step-answer-known (r .answer) (r′ .answer) says))
     _
     (λ k exit. roomsOf (now (exit .1 .1 .1 .1 .0)) (now (exit .1 .1 .1 .1 .1 .0)) (now (exit .1 .1 .1 .1 .1 .1 .0)) (now (exit .1 .1 .1 .1 .1 .1 .1 .0)) (now (exit .1 .1 .1 .1 .1 .1 .1 .1 .0)))
     _

@@ -17,8 +17,8 @@ pub record Held : Type 0 where
   pub records : ℕ
 
 -- at first: a fresh chip, its store all zero, and table and rows empty
-abbrev pub empty : Held
-empty =
+abbrev pub nothingHeld : Held
+nothingHeld =
     record {
       chip = (fresh, replicate storeLength 0);
       table = [];
@@ -29,8 +29,8 @@ empty =
     }
 
 -- after a record: one more was read
-abbrev after : Held → Chip → List ℕ → List ℕ → List ℕ → List ℕ → Held
-after held chip table normal overlay output =
+abbrev oneRecordMore : Held → Chip → List ℕ → List ℕ → List ℕ → List ℕ → Held
+oneRecordMore held chip table normal overlay output =
     record {
       chip = chip;
       table = table;
@@ -42,20 +42,20 @@ after held chip table normal overlay output =
 
 -- one that changed the chip
 abbrev pub withChip : Held → Chip → Held
-withChip held chip = after held chip (held .table) (held .normal) (held .overlay) (held .output)
+withChip held chip = oneRecordMore held chip (held .table) (held .normal) (held .overlay) (held .output)
 
 -- one that changed the table
 abbrev pub withTable : Held → List ℕ → Held
-withTable held table = after held (held .chip) table (held .normal) (held .overlay) (held .output)
+withTable held table = oneRecordMore held (held .chip) table (held .normal) (held .overlay) (held .output)
 
 -- one that changed the normal row
 abbrev pub withNormal : Held → List ℕ → Held
-withNormal held normal = after held (held .chip) (held .table) normal (held .overlay) (held .output)
+withNormal held normal = oneRecordMore held (held .chip) (held .table) normal (held .overlay) (held .output)
 
 -- one that changed the overlay row
 abbrev pub withOverlay : Held → List ℕ → Held
-withOverlay held overlay = after held (held .chip) (held .table) (held .normal) overlay (held .output)
+withOverlay held overlay = oneRecordMore held (held .chip) (held .table) (held .normal) overlay (held .output)
 
 -- one that asked for a line
 abbrev pub withLine : Held → Chip → List ℕ → Held
-withLine held chip output = after held chip (held .table) (held .normal) (held .overlay) output
+withLine held chip output = oneRecordMore held chip (held .table) (held .normal) (held .overlay) output

@@ -8,8 +8,8 @@ use Rattle.chip.specs.Call.{Chip}
 use Rattle.chip.specs.declared.state.State.{State}
 use Rattle.session_records.specs.declared.record.Record.{Record}
 use Rattle.session_records.specs.declared.record.Record.the-variants.{End, Write, Dots, Table, Normal, Overlay, Line}
-use Rattle.session_listing.specs.Text.{Listed}
-use Rattle.session_answers.specs.Came.{Came, listed}
+use Rattle.session_listing.specs.Text.{EntrySays}
+use Rattle.session_answers.specs.Status.{Status, listed}
 use Rattle.session.specs.Record.{entryOf, acted}
 use Rattle.session.specs.Lent.{Rooms, heldIn, leftIn}
 use Rattle.session.specs.declared.session.Session.{Session}
@@ -48,11 +48,11 @@ counted session =
     }
 
 -- after one more record, which lists this entry
-abbrev pub listedIn : Session → Listed → Session × Outcome Numbered Came
+abbrev pub listedIn : Session → EntrySays → Session × Outcome Numbered Status
 listedIn session entry = (counted session, ok (listed entry))
 
 -- after a record that asked the chip: what a call left and answered becomes the session's, with this entry where it is done
-abbrev pub askedIn : {A : Type 0} → Session → Listed → Chip × Outcome Numbered A → (Session × List ℕ) × Outcome Numbered Came
+abbrev pub askedIn : {A : Type 0} → Session → EntrySays → Chip × Outcome Numbered A → (Session × List ℕ) × Outcome Numbered Status
 askedIn session entry after = ((counted (withState session (after .0 .0)), after .0 .1), ok (listed (entryOf entry (after .1))))
 
 -- what is held lies within the rooms
@@ -62,17 +62,17 @@ pub record Within (session : Session) (rooms : Rooms) : Type 0 where
   pub overlay-within : session .overlay ≤ length (rooms .overlay)
 
 -- there is room for a record's body
-abbrev pub Fits : Session → Rooms → Record → List ℕ → Type 0
-Fits session rooms End body = Unit {0}
-Fits session rooms (Write address value) body = Unit {0}
-Fits session rooms (Dots count) body = Unit {0}
-Fits session rooms Table body = session .table + length body ≤ length (rooms .table)
-Fits session rooms Normal body = length body ≤ length (rooms .normal)
-Fits session rooms Overlay body = length body ≤ length (rooms .overlay)
-Fits session rooms (Line y) body = Unit {0}
+abbrev pub BodyFits : Session → Rooms → Record → List ℕ → Type 0
+BodyFits session rooms End body = Unit {0}
+BodyFits session rooms (Write address value) body = Unit {0}
+BodyFits session rooms (Dots count) body = Unit {0}
+BodyFits session rooms Table body = session .table + length body ≤ length (rooms .table)
+BodyFits session rooms Normal body = length body ≤ length (rooms .normal)
+BodyFits session rooms Overlay body = length body ≤ length (rooms .overlay)
+BodyFits session rooms (Line y) body = Unit {0}
 
 -- what a record with this body leaves, and what it comes to
-unfoldable pub actedIn : Session → Rooms → Record → List ℕ → (Session × Rooms) × Outcome Numbered Came
+unfoldable pub actedIn : Session → Rooms → Record → List ℕ → (Session × Rooms) × Outcome Numbered Status
 actedIn session rooms which body =
     let after = acted (heldIn session rooms) which body in
     (leftIn rooms (after .0), ok (after .1))

@@ -4,8 +4,8 @@ use mathlib.Core.Bool.{true, cond}
 use mathlib.Core.List.{List, [], _++_}
 use lib.ListN.{drop}
 use Rattle.session_records.specs.Tags.{mostRecords}
-use Rattle.session_answers.specs.Came.{textOf, goesOn}
-use Rattle.session.specs.Held.{Held, empty}
+use Rattle.session_answers.specs.Status.{textOf, goesOn}
+use Rattle.session.specs.Held.{Held, nothingHeld}
 use Rattle.session.specs.Record.{stepped}
 
 -- the text of at most so many further records
@@ -18,4 +18,4 @@ listingFrom (suc count) held bytes =
 
 -- the listing: there are at most 1,000,000 records, and one that is too much
 unfoldable pub listing : List ℕ → List ℕ
-listing file = listingFrom (mostRecords + 1) empty file
+listing file = listingFrom (mostRecords + 1) nothingHeld file

@@ -13,67 +13,67 @@ use Rattle.chip.specs.Dots.{ran}
 use Rattle.chip.specs.declared.state.State.{State}
 use Rattle.chip.specs.declared.dots.Report.{Report}
 use Rattle.session_records.specs.Parts.{bodyOf}
-use Rattle.session_records.specs.Found.{found}
+use Rattle.session_records.specs.RecordAt.{recordAt}
 use Rattle.session_records.specs.declared.record.Record.{Record}
 use Rattle.session_records.specs.declared.record.Record.the-variants.{End, Write, Dots, Table, Normal, Overlay, Line}
 use Rattle.session_records.specs.declared.record.Context.{Context}
-use Rattle.session_records.specs.declared.record.Found.{Found}
-use Rattle.session_records.specs.declared.record.Found.the-variants.{Is, More, Refused}
-use Rattle.session_listing.specs.Text.{Listed, at, line}
+use Rattle.session_records.specs.declared.record.RecordAt.{RecordAt}
+use Rattle.session_records.specs.declared.record.RecordAt.the-variants.{Is, More, Refused}
+use Rattle.session_listing.specs.Text.{EntrySays, saysAt, saysLine}
 use Rattle.session_listing.specs.Text as text
-use Rattle.session_answers.specs.Came.{Came, listed, ended, waits, stopped}
+use Rattle.session_answers.specs.Status.{Status, listed, ended, needsMore, stopped}
 use Rattle.line_setup.specs.Controls.{controlsOf}
 use Rattle.line.specs.Cells.{lentOf}
 use Rattle.line.specs.Drawn.{drawn}
 use Rattle.session.specs.Held.{Held, withChip, withTable, withNormal, withOverlay, withLine}
 
 -- the entry of a call: this one where it is done, else its refusal
-abbrev pub entryOf : {A : Type 0} → Listed → Outcome Numbered A → Listed
+abbrev pub entryOf : {A : Type 0} → EntrySays → Outcome Numbered A → EntrySays
 entryOf entry (ok answer) = entry
-entryOf entry (refused refusal) = text.refused refusal
+entryOf entry (refused refusal) = text.saysRefused refusal
 
 -- the entry of dots: the position after them
-abbrev pub atPosition : Position → Listed
-atPosition position = at (position .x) (position .y)
+abbrev pub atPosition : Position → EntrySays
+atPosition position = saysAt (position .x) (position .y)
 
 -- a write
-abbrev pub wrote : Held → Chip × Outcome Numbered (Unit {0}) → Held × Came
-wrote held after = (withChip held (after .0), listed (entryOf text.ok (after .1)))
+abbrev pub wrote : Held → Chip × Outcome Numbered (Unit {0}) → Held × Status
+wrote held after = (withChip held (after .0), listed (entryOf text.saysOk (after .1)))
 
 -- some dots
-abbrev pub dotted : Held → Chip × Outcome Numbered Report → Held × Came
-dotted held after = (withChip held (after .0), listed (entryOf (atPosition (after .0 .0 .at)) (after .1)))
+abbrev pub ranDots : Held → Chip × Outcome Numbered Report → Held × Status
+ranDots held after = (withChip held (after .0), listed (entryOf (atPosition (after .0 .0 .at)) (after .1)))
 
 -- a line
-abbrev pub drew : Held → ℕ → (State × List ℕ) × Outcome Numbered (Unit {0}) → Held × Came
+abbrev pub drew : Held → ℕ → (State × List ℕ) × Outcome Numbered (Unit {0}) → Held × Status
 drew held y after = (
   withLine held (after .0 .0, held .chip .1) (after .0 .1),
-  listed (entryOf (line y (controlsOf (held .chip .0 .control) .width)) (after .1)),
+  listed (entryOf (saysLine y (controlsOf (held .chip .0 .control) .width)) (after .1)),
 )
 
 -- what a record with this body leaves, and what it comes to. Table bytes are appended, a row is replaced; the end record lists nothing and ends the run
-abbrev pub acted : Held → Record → List ℕ → Held × Came
+abbrev pub acted : Held → Record → List ℕ → Held × Status
 acted held End body = (held, ended)
 acted held (Write address value) body = wrote held (written (held .chip) address value)
-acted held (Dots count) body = dotted held (ran (held .chip) count)
-acted held Table body = (withTable held (held .table ++ body), listed text.ok)
-acted held Normal body = (withNormal held body, listed text.ok)
-acted held Overlay body = (withOverlay held body, listed text.ok)
+acted held (Dots count) body = ranDots held (ran (held .chip) count)
+acted held Table body = (withTable held (held .table ++ body), listed text.saysOk)
+acted held Normal body = (withNormal held body, listed text.saysOk)
+acted held Overlay body = (withOverlay held body, listed text.saysOk)
 acted held (Line y) body =
     drew held y
     (drawn (held .chip .0) y (lentOf (held .chip .1) (held .table) (held .normal) (held .overlay)) (held .output))
 
 -- what comes of what was found: what is held, how many bytes were taken, and what it comes to. Without a record all is as it was
-abbrev pub cameBy : Held → List ℕ → Found → (Held × ℕ) × Came
-cameBy held bytes (Is which length) =
+abbrev pub statusBy : Held → List ℕ → RecordAt → (Held × ℕ) × Status
+statusBy held bytes (Is which length) =
     let after = acted held which (bodyOf bytes) in ((after .0, 3 + length), after .1)
-cameBy held bytes More = ((held, 0), waits)
-cameBy held bytes (Refused refusal) = ((held, 0), stopped (numbered refusal))
+statusBy held bytes More = ((held, 0), needsMore)
+statusBy held bytes (Refused refusal) = ((held, 0), stopped (numbered refusal))
 
 -- what a record is judged by
 abbrev pub contextOf : Held → Bool → Context
 contextOf held last = record { number = held .records; table = length (held .table); last = last }
 
 -- one step, at bytes with which the file ends or not
-unfoldable pub stepped : Bool → Held → List ℕ → (Held × ℕ) × Came
-stepped last held bytes = cameBy held bytes (found (contextOf held last) bytes)
+unfoldable pub stepped : Bool → Held → List ℕ → (Held × ℕ) × Status
+stepped last held bytes = statusBy held bytes (recordAt (contextOf held last) bytes)

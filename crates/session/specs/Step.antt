@@ -5,7 +5,7 @@ use mathlib.Core.List.{List}
 use lib.ListN.{length, drop}
 use Rattle.rules.specs.Rule.{Outcome}
 use Rattle.rules.specs.Faults.{Numbered, Fault, unless}
-use Rattle.session_answers.specs.Came.{Came}
+use Rattle.session_answers.specs.Status.{Status}
 use Rattle.session_rooms.specs.Rooms.{lentFaults}
 use Rattle.session_rooms.specs.declared.Counts.{Counts}
 use Rattle.session.specs.Record.{stepped}
@@ -27,12 +27,12 @@ abbrev pub Left : Type 0
 Left = (Session × ℕ) × Rooms
 
 -- what a step at a place of lent bytes leaves, and what it comes to
-unfoldable pub afterStep : Session → Rooms → List ℕ → ℕ → Bool → Left × Came
+unfoldable pub afterStep : Session → Rooms → List ℕ → ℕ → Bool → Left × Status
 afterStep session rooms bytes place last =
     let step = stepped last (heldIn session rooms) (drop place bytes) in
     (((sessionOf (step .0 .0), place + step .0 .1), roomsWith rooms (step .0 .0)), step .1)
 
 -- what a call leaves and answers
-unfoldable pub sessionStep : Session → Rooms → List ℕ → ℕ → Bool → Left × Outcome Numbered Came
+unfoldable pub sessionStep : Session → Rooms → List ℕ → ℕ → Bool → Left × Outcome Numbered Status
 sessionStep session rooms bytes place last =
     unless (stepFaults session rooms) ((session, place), rooms) (afterStep session rooms bytes place last)

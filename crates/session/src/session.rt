@@ -1,6 +1,6 @@
 // What a session holds besides its lent memory.
 ghost use mathlib.Core.Path.{_≡_};
-ghost use Rattle.session.specs.Held.{empty};
+ghost use Rattle.session.specs.Held.{nothingHeld};
 ghost use Rattle.session.specs.Lent.{sessionOf};
 use chip::state::State;
 
@@ -17,7 +17,7 @@ pub struct Session {
 impl Session {
     // A session before its first record: a fresh chip, table and rows empty. Its store is all zero.
     pub fn new() -> Self
-        ensures { λ r. ⌜ r ≡ sessionOf empty ⌝ }
+        ensures { λ r. ⌜ r ≡ sessionOf nothingHeld ⌝ }
     {
         let state = State::new();
         Self {

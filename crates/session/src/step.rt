@@ -1,21 +1,21 @@
 // One record of a session.
 ghost use mathlib.Core.Path.{_≡_};
-ghost use Rattle.session_answers.specs.Came.{told};
+ghost use Rattle.session_answers.specs.Status.{stepOutcome};
 ghost use Rattle.session.specs.Lent.{roomsOf};
 ghost use Rattle.session.specs.Step.{sessionStep};
 use crate::session::Session;
-use session_answers::Answer;
+use refusals::Answer;
+use session_answers::StepAnswer;
 use session_records::record::Context;
-use session_records::record::Found;
-use refusals::Fit;
+use session_records::record::RecordAt;
 use session_rooms::Counts;
-use session_rooms::fit;
+use session_rooms::step_check;
 
 // The session that a step hands back, the place of the next record, and the answer.
 pub struct Stepped {
     pub session: Session,
     pub place: usize,
-    pub answer: Answer,
+    pub answer: StepAnswer,
 }
 
 // The record at a place of the bytes, on the lent store, table, rows and output. `last` says that the file ends with these bytes.
@@ -30,7 +30,7 @@ pub fn step(
     overlay: &mut [u8],
     output: &mut [u32],
 ) -> Stepped
-    ensures { λ r. ⌜ (((r .session, r .place), roomsOf (now (store .exit)) (now (table .exit)) (now (normal .exit)) (now (overlay .exit)) (now (output .exit))), told (r .answer)) ≡ sessionStep session (roomsOf (now (store .entry)) (now (table .entry)) (now (normal .entry)) (now (overlay .entry)) (now (output .entry))) (now (bytes .entry)) place last ⌝ }
+    ensures { λ r. ⌜ (((r .session, r .place), roomsOf (now (store .exit)) (now (table .exit)) (now (normal .exit)) (now (overlay .exit)) (now (output .exit))), stepOutcome (r .answer)) ≡ sessionStep session (roomsOf (now (store .entry)) (now (table .entry)) (now (normal .entry)) (now (overlay .entry)) (now (output .entry))) (now (bytes .entry)) place last ⌝ }
 {
     let held = session.table;
     let counts = Counts {
@@ -38,7 +38,7 @@ pub fn step(
         normal: session.normal,
         overlay: session.overlay,
     };
-    let fits = fit(
+    let allowed = step_check(
         counts,
         store.len(),
         table.len(),
@@ -46,11 +46,11 @@ pub fn step(
         overlay.len(),
         output.len(),
     );
-    if let Fit::Refused(refusal) = fits {
+    if let Answer::Refused(refusal) = allowed {
         return Stepped {
             session,
             place,
-            answer: Answer::Refused(refusal),
+            answer: StepAnswer::Refused(refusal),
         };
     }
     let context = Context {
@@ -60,7 +60,7 @@ pub fn step(
     };
     let found = session_reader::read(bytes, place, context);
     match found {
-        Found::Is { record, length } => {
+        RecordAt::Is { record, length } => {
             let start = place + 3;
             let end = start + length;
             let acted = session.act(
@@ -80,15 +80,15 @@ pub fn step(
                 answer,
             }
         }
-        Found::More => Stepped {
+        RecordAt::More => Stepped {
             session,
             place,
-            answer: Answer::More,
+            answer: StepAnswer::More,
         },
-        Found::Refused(refusal) => Stepped {
+        RecordAt::Refused(refusal) => Stepped {
             session,
             place,
-            answer: Answer::Stopped(refusal),
+            answer: StepAnswer::Stopped(refusal),
         },
     }
 }

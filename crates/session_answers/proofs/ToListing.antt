@@ -6,42 +6,42 @@ use mathlib.Core.List.{List, []}
 use Rattle.rules.specs.Rule.{Outcome, ok, refused}
 use Rattle.rules.specs.Faults.{Numbered}
 use Rattle.rules.proofs.Cases.{impossible}
-use Rattle.session_listing.specs.Text.{said, text}
-use Rattle.session_answers.specs.Came.{Came, waits, textOf, goesOn, told}
-use Rattle.session_answers.specs.Answers.{shows, over}
-use Rattle.session_answers.specs.declared.Answer.{Answer}
-use Rattle.session_answers.specs.declared.Answer.the-variants as answer
-use Rattle.session_answers.specs.declared.Shows.{Shows}
-use Rattle.session_answers.specs.declared.Shows.the-variants as shown
+use Rattle.session_listing.specs.Text.{entrySays, text}
+use Rattle.session_answers.specs.Status.{Status, needsMore, textOf, goesOn, stepOutcome}
+use Rattle.session_answers.specs.Answers.{adds, over}
+use Rattle.session_answers.specs.declared.StepAnswer.{StepAnswer}
+use Rattle.session_answers.specs.declared.StepAnswer.the-variants as answer
+use Rattle.session_answers.specs.declared.Adds.{Adds}
+use Rattle.session_answers.specs.declared.Adds.the-variants as shown
 
 -- what an answer comes to, where it is no refusal
-abbrev pub came-of : Came → Outcome Numbered Came → Came
+abbrev pub came-of : Status → Outcome Numbered Status → Status
 came-of other (ok came) = came
 came-of other (refused refusal) = other
 
 -- the text of what an answer shows
-abbrev shownText : List ℕ → Shows → List ℕ
-shownText output (shown.Entry entry) = text (said entry) output
+abbrev shownText : List ℕ → Adds → List ℕ
+shownText output (shown.One entry) = text (entrySays entry) output
 shownText output shown.Nothing = []
 
 -- an answer that is no refusal of the call shows the text of what the step comes to
-pub shows-text : (output : List ℕ) (answer : Answer) {came : Came} → told answer ≡ ok came → shownText output (shows answer) ≡ textOf output came
-shows-text output (answer.Listed entry) is = ap (λ (outcome : Outcome Numbered Came). textOf output (came-of waits outcome)) is
-shows-text output answer.End is = ap (λ (outcome : Outcome Numbered Came). textOf output (came-of waits outcome)) is
-shows-text output answer.More is = ap (λ (outcome : Outcome Numbered Came). textOf output (came-of waits outcome)) is
-shows-text output (answer.Stopped refusal) is = ap (λ (outcome : Outcome Numbered Came). textOf output (came-of waits outcome)) is
+pub shows-text : (output : List ℕ) (answer : StepAnswer) {came : Status} → stepOutcome answer ≡ ok came → shownText output (adds answer) ≡ textOf output came
+shows-text output (answer.Listed entry) is = ap (λ (outcome : Outcome Numbered Status). textOf output (came-of needsMore outcome)) is
+shows-text output answer.End is = ap (λ (outcome : Outcome Numbered Status). textOf output (came-of needsMore outcome)) is
+shows-text output answer.More is = ap (λ (outcome : Outcome Numbered Status). textOf output (came-of needsMore outcome)) is
+shows-text output (answer.Stopped refusal) is = ap (λ (outcome : Outcome Numbered Status). textOf output (came-of needsMore outcome)) is
 shows-text output (answer.Refused refusal) is = impossible cc
 
 -- and the run is over with it exactly where the listing doesn't go on, unless it waits for more bytes
-pub over-goes : (answer : Answer) {came : Came} → told answer ≡ ok came → (came ≡ waits → ⊥) → over answer ≡ not (goesOn came)
-over-goes (answer.Listed entry) is going = ap (λ (outcome : Outcome Numbered Came). not (goesOn (came-of waits outcome))) is
-over-goes answer.End is going = ap (λ (outcome : Outcome Numbered Came). not (goesOn (came-of waits outcome))) is
-over-goes answer.More is going = absurd (going (ap (came-of waits) (sym is)))
-over-goes (answer.Stopped refusal) is going = ap (λ (outcome : Outcome Numbered Came). not (goesOn (came-of waits outcome))) is
+pub over-goes : (answer : StepAnswer) {came : Status} → stepOutcome answer ≡ ok came → (came ≡ needsMore → ⊥) → over answer ≡ not (goesOn came)
+over-goes (answer.Listed entry) is going = ap (λ (outcome : Outcome Numbered Status). not (goesOn (came-of needsMore outcome))) is
+over-goes answer.End is going = ap (λ (outcome : Outcome Numbered Status). not (goesOn (came-of needsMore outcome))) is
+over-goes answer.More is going = absurd (going (ap (came-of needsMore) (sym is)))
+over-goes (answer.Stopped refusal) is going = ap (λ (outcome : Outcome Numbered Status). not (goesOn (came-of needsMore outcome))) is
 over-goes (answer.Refused refusal) is going = impossible cc
 
 -- an answer that waits shows nothing, and the run isn't over with it
-pub waits-shows : (answer : Answer) → told answer ≡ ok waits → (shows answer ≡ shown.Nothing) × (over answer ≡ false)
+pub waits-shows : (answer : StepAnswer) → stepOutcome answer ≡ ok needsMore → (adds answer ≡ shown.Nothing) × (over answer ≡ false)
 waits-shows (answer.Listed entry) is = impossible cc
 waits-shows answer.End is = impossible cc
 waits-shows answer.More is = (refl, refl)

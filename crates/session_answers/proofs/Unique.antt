@@ -1,11 +1,11 @@
 -- No second answer meets a contract of this crate. Assumes nothing.
 use Rattle.rules.specs.Unique.{OneAnswer}
 use Rattle.rules.proofs.Unique.{by-equation}
-use Rattle.session_answers.proofs.Answer.over.Reads as over
-use Rattle.session_answers.proofs.Answer.shows.Reads as shows
+use Rattle.session_answers.proofs.StepAnswer.over.Reads as over
+use Rattle.session_answers.proofs.StepAnswer.adds.Reads as adds
 
-pub shows-unique : OneAnswer shows.Post
-shows-unique = by-equation _ _
+pub adds-unique : OneAnswer adds.Post
+adds-unique = by-equation _ _
 
 pub over-unique : OneAnswer over.Post
 over-unique = by-equation _ _

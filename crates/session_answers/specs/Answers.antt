@@ -1,21 +1,21 @@
 -- What a step's answer asks of whoever called it.
 use mathlib.Core.Bool.{Bool, true, false}
-use Rattle.session_listing.specs.declared.entry.Entry.the-variants.{Refused as RefusedEntry}
-use Rattle.session_answers.specs.declared.Answer.{Answer}
-use Rattle.session_answers.specs.declared.Answer.the-variants.{Listed, End, More, Stopped, Refused}
-use Rattle.session_answers.specs.declared.Shows.{Shows}
-use Rattle.session_answers.specs.declared.Shows.the-variants.{Entry, Nothing}
+use Rattle.session_listing.specs.declared.entry.ListingEntry.the-variants.{Refused as RefusedEntry}
+use Rattle.session_answers.specs.declared.StepAnswer.{StepAnswer}
+use Rattle.session_answers.specs.declared.StepAnswer.the-variants.{Listed, End, More, Stopped, Refused}
+use Rattle.session_answers.specs.declared.Adds.{Adds}
+use Rattle.session_answers.specs.declared.Adds.the-variants.{One, Nothing}
 
 -- what it shows: its entry, nothing at the end and where it waits, the refusal where it is one
-abbrev pub shows : Answer → Shows
-shows (Listed entry) = Entry entry
-shows End = Nothing
-shows More = Nothing
-shows (Stopped refusal) = Entry (RefusedEntry refusal)
-shows (Refused refusal) = Entry (RefusedEntry refusal)
+abbrev pub adds : StepAnswer → Adds
+adds (Listed entry) = One entry
+adds End = Nothing
+adds More = Nothing
+adds (Stopped refusal) = One (RefusedEntry refusal)
+adds (Refused refusal) = One (RefusedEntry refusal)
 
 -- the run is over with it
-abbrev pub over : Answer → Bool
+abbrev pub over : StepAnswer → Bool
 over (Listed entry) = false
 over End = true
 over More = false

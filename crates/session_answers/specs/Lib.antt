@@ -1,2 +1,2 @@
-pub mod Came
+pub mod Status
 pub mod Answers

@@ -1,13 +1,13 @@
 // What a step of a session answers, and what that asks of whoever called it.
 ghost use mathlib.Core.Path.{_≡_};
-ghost use Rattle.session_answers.specs.Answers.{shows, over};
-use session_listing::entry::Entry;
+ghost use Rattle.session_answers.specs.Answers.{adds, over};
 use refusals::Refusal;
+use session_listing::entry::ListingEntry;
 
 // What a step answers: a record's entry in the listing, that the end record is reached, that the bytes end within a record and the file goes on, a
 // fault of the file, which stops the run, or the refusal of a call that is lent the wrong things.
-pub enum Answer {
-    Listed(Entry),
+pub enum StepAnswer {
+    Listed(ListingEntry),
     End,
     More,
     Stopped(Refusal),
@@ -15,22 +15,22 @@ pub enum Answer {
 }
 
 // What an answer adds to the listing.
-pub enum Shows {
-    Entry(Entry),
+pub enum Adds {
+    One(ListingEntry),
     Nothing,
 }
 
-impl Answer {
+impl StepAnswer {
     // What it adds to the listing.
-    pub fn shows(self) -> Shows
-        ensures { λ r. ⌜ r ≡ shows self ⌝ }
+    pub fn adds(self) -> Adds
+        ensures { λ r. ⌜ r ≡ adds self ⌝ }
     {
         match self {
-            Answer::Listed(entry) => Shows::Entry(entry),
-            Answer::End => Shows::Nothing,
-            Answer::More => Shows::Nothing,
-            Answer::Stopped(refusal) => Shows::Entry(Entry::Refused(refusal)),
-            Answer::Refused(refusal) => Shows::Entry(Entry::Refused(refusal)),
+            StepAnswer::Listed(entry) => Adds::One(entry),
+            StepAnswer::End => Adds::Nothing,
+            StepAnswer::More => Adds::Nothing,
+            StepAnswer::Stopped(refusal) => Adds::One(ListingEntry::Refused(refusal)),
+            StepAnswer::Refused(refusal) => Adds::One(ListingEntry::Refused(refusal)),
         }
     }
 
@@ -39,11 +39,11 @@ impl Answer {
         ensures { λ r. ⌜ r ≡ over self ⌝ }
     {
         match self {
-            Answer::Listed(_) => false,
-            Answer::End => true,
-            Answer::More => false,
-            Answer::Stopped(_) => true,
-            Answer::Refused(_) => true,
+            StepAnswer::Listed(_) => false,
+            StepAnswer::End => true,
+            StepAnswer::More => false,
+            StepAnswer::Stopped(_) => true,
+            StepAnswer::Refused(_) => true,
         }
     }
 }

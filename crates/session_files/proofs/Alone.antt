@@ -9,10 +9,10 @@ use lib.ListN.{length}
 use Rattle.rules.proofs.Cases.{impossible}
 use Rattle.session_records.specs.Parts.{lengthOf}
 use Rattle.session_records.specs.Faults.{missing}
-use Rattle.session_records.specs.Found.{found}
+use Rattle.session_records.specs.RecordAt.{recordAt}
 use Rattle.session_records.specs.declared.record.Record.{Record}
-use Rattle.session_records.specs.declared.record.Found.{Found}
-use Rattle.session_records.specs.declared.record.Found.the-variants.{Is, More}
+use Rattle.session_records.specs.declared.record.RecordAt.{RecordAt}
+use Rattle.session_records.specs.declared.record.RecordAt.the-variants.{Is, More}
 use Rattle.session_records.proofs.Answers.{found-wrong, found-much, found-is}
 use Rattle.session_records.proofs.Judged.{Judged, faulty, waiting, cut-much, cut, much, good, judged}
 use Rattle.session_records.proofs.Accepted.{found-accepted}
@@ -22,7 +22,7 @@ use Rattle.session.specs.Record.{contextOf, stepped}
 use Rattle.session_files.proofs.Behind.{found-anyway, record-behind}
 
 module _ (held : Held) (bytes rest : List ℕ) (last : Bool) {which : Record} {count : ℕ}
-    (e : found (contextOf held last) (bytes ++ rest) ≡ Is which count) (enough : 3 + count ≤ length bytes) where
+    (e : recordAt (contextOf held last) (bytes ++ rest) ≡ Is which count) (enough : 3 + count ≤ length bytes) where
   -- no byte of the record is missing
   all-there : missing bytes ≡ false
   unfolding missing
@@ -31,11 +31,11 @@ module _ (held : Held) (bytes rest : List ℕ) (last : Bool) {which : Record} {c
       rw (← long, le-leb 3 (length bytes) (omega arith), le-leb (3 + count) (length bytes) enough)
 
   -- what is found in these bytes is found with those behind them
-  same-behind : {answer : Found} → (answer ≡ More → ⊥) → found (contextOf held false) bytes ≡ answer → found (contextOf held last) (bytes ++ rest) ≡ answer
+  same-behind : {answer : RecordAt} → (answer ≡ More → ⊥) → recordAt (contextOf held false) bytes ≡ answer → recordAt (contextOf held last) (bytes ++ rest) ≡ answer
   same-behind {answer} sure is = found-behind (held .records) (length (held .table)) bytes rest last answer sure is
 
   -- by the way in which the bytes are judged
-  alone-by : Judged (contextOf held false) bytes → found (contextOf held false) bytes ≡ Is which count
+  alone-by : Judged (contextOf held false) bytes → recordAt (contextOf held false) bytes ≡ Is which count
   alone-by (faulty w) = impossible (cc (same-behind (λ more. impossible cc) (found-wrong (contextOf held false) bytes w)))
   alone-by (waiting w s l) = impossible (cc all-there)
   alone-by (cut-much w s l m) = impossible cc

@@ -8,7 +8,7 @@ use Rattle.chip.specs.State.{fresh}
 use Rattle.chip.specs.Call.{Chip}
 use Rattle.chip.specs.declared.state.State.{State}
 use Rattle.chip.proofs.Good.{fresh-whole, fresh-good}
-use Rattle.chip_history.specs.Calls.{Call, line, after, end}
+use Rattle.chip_history.specs.Calls.{Call, line, leftBy, end}
 use Rattle.chip_history.proofs.Stays.{stays-good}
 use Rattle.line.specs.Cells.{lentOf}
 use Rattle.line.specs.Drawn.{drawn}
@@ -16,8 +16,8 @@ use Rattle.line_reads.proofs.Answers.{Not11, state-stays, good-not-11}
 
 module _ (y : ℕ) (table normal overlay output : List ℕ) where
   -- what a sequence says that a line leaves is the state that the line hands back, and the store that it is lent to read
-  pub line-leaves : (chip : Chip) → after chip line ≡ (drawn (chip .0) y (lentOf (chip .1) table normal overlay) output .0 .0, chip .1)
-  unfolding after
+  pub line-leaves : (chip : Chip) → leftBy chip line ≡ (drawn (chip .0) y (lentOf (chip .1) table normal overlay) output .0 .0, chip .1)
+  unfolding leftBy
   line-leaves chip = ap (λ (state : State). (state, chip .1)) (sym (state-stays (chip .0) y (lentOf (chip .1) table normal overlay) output))
 
   -- after any calls from a fresh state a line is not refused by 11

@@ -11,12 +11,11 @@ use Rattle.rules.specs.Faults.{Clear}
 use Rattle.rules.specs.Lists.{joined}
 use Rattle.rules.proofs.Faults.{none-holds}
 use Rattle.chip_registers.specs.Store.{storeLength}
-use Rattle.chip_history.specs.Calls.{after}
 use Rattle.session_records.specs.Tags.{longestTable, longestNormal, longestOverlay}
-use Rattle.session_listing.specs.Text.{refused, text}
-use Rattle.session_answers.specs.Came.{Came, listed, waits, stopped}
+use Rattle.session_listing.specs.Text.{saysRefused, text}
+use Rattle.session_answers.specs.Status.{Status, listed, needsMore, stopped}
 use Rattle.session_rooms.specs.Rooms.{longestLine, tooMuchHeld, roomFaults}
-use Rattle.session.specs.Held.{Held, empty}
+use Rattle.session.specs.Held.{Held, nothingHeld}
 use Rattle.session.specs.Record.{stepped}
 use Rattle.session.specs.Listing.{listing}
 use Rattle.session.specs.Lent.{Rooms, heldIn, laid, roomsWith, sessionOf}
@@ -99,10 +98,10 @@ module _ (session : Session) (rooms : Rooms) (bytes : List ℕ) (place : ℕ) (l
   call-answered = none-holds ((session, place), rooms) (afterStep session rooms bytes place last) (stepFaults session rooms) (roomy-clear ready)
 
   -- it answers what the step over what is held comes to
-  pub call-comes : {came : Came} → stepped last (heldIn session rooms) (drop place bytes) .1 ≡ came
+  pub call-comes : {came : Status} → stepped last (heldIn session rooms) (drop place bytes) .1 ≡ came
       → sessionStep session rooms bytes place last ≡ (left session rooms bytes place last, ok came)
   unfolding afterStep
-  call-comes e = call-answered ∙ ap (λ (came : Came). (left session rooms bytes place last, ok came)) e
+  call-comes e = call-answered ∙ ap (λ (came : Status). (left session rooms bytes place last, ok came)) e
 
   -- and what it leaves is ready for the next
   pub stays-ready : let after = left session rooms bytes place last in Ready (after .0 .0) (after .1)
@@ -116,7 +115,7 @@ pub steps-calls : {held : Held} {unread : List ℕ} {pieces : List (List ℕ)} {
     → (session : Session) (rooms : Rooms) (bytes : List ℕ) (place : ℕ) → Ready session rooms → heldIn session rooms ≡ held → drop place bytes ≡ unread
     → Calls session rooms bytes place pieces written
 steps-calls (steps.lends {held = held} {unread = unread} {piece = piece} waited others) session rooms bytes place ready same here =
-    let waits-so : stepped false (heldIn session rooms) (drop place bytes) .1 ≡ waits = rw (same, here) waited in
+    let waits-so : stepped false (heldIn session rooms) (drop place bytes) .1 ≡ needsMore = rw (same, here) waited in
     let is = call-comes session rooms bytes place false ready waits-so in
     let leaves = waiting-leaves false (heldIn session rooms) (drop place bytes) waits-so in
     let next = left session rooms bytes place false in
@@ -129,9 +128,9 @@ steps-calls (steps.lends {held = held} {unread = unread} {piece = piece} waited 
 steps-calls (steps.lists {after = after} {unread = unread} {pieces = pieces} {rest = rest} {taken = taken} {entry = entry} stepped-so others) session rooms bytes place ready same here =
     let last = none pieces in
     let step-is : stepped last (heldIn session rooms) (drop place bytes) ≡ ((after, taken), listed entry) = rw (same, here) stepped-so in
-    let is = call-comes session rooms bytes place last ready (ap (λ (all : (Held × ℕ) × Came). all .1) step-is) in
+    let is = call-comes session rooms bytes place last ready (ap (λ (all : (Held × ℕ) × Status). all .1) step-is) in
     let next = left session rooms bytes place last in
-    let held-is : heldIn (next .0 .0) (next .1) ≡ after = same-held session rooms bytes place last is ∙ ap (λ (all : (Held × ℕ) × Came). all .0 .0) step-is in
+    let held-is : heldIn (next .0 .0) (next .1) ≡ after = same-held session rooms bytes place last is ∙ ap (λ (all : (Held × ℕ) × Status). all .0 .0) step-is in
     let unread-is : drop (next .0 .1) bytes ≡ drop taken unread =
     same-place session rooms bytes place last is ∙ rw (step-is, here) refl in
     subst (λ (output : List ℕ). Calls session rooms bytes place pieces (text entry output ++ rest)) (ap (λ (held : Held). held .output) held-is)
@@ -146,10 +145,10 @@ steps-calls (steps.stops {held = held} {pieces = pieces} {refusal = refusal} sto
     same-output session rooms bytes place last is
     ∙ ap (λ (all : Held × ℕ). all .0 .output) (stopped-leaves last (heldIn session rooms) (drop place bytes) stops-so)
     ∙ ap (λ (other : Held). other .output) same in
-    subst (λ (output : List ℕ). Calls session rooms bytes place pieces (text (refused refusal) output)) output-is (stops is)
+    subst (λ (output : List ℕ). Calls session rooms bytes place pieces (text (saysRefused refusal) output)) output-is (stops is)
 
 -- a new session is ready in zeroed rooms of the right lengths
-pub first-ready : {rooms : Rooms} → Zeroed rooms → RightLengths rooms → Ready (sessionOf empty) rooms
+pub first-ready : {rooms : Rooms} → Zeroed rooms → RightLengths rooms → Ready (sessionOf nothingHeld) rooms
 first-ready zeroed right =
     record {
       roomy = subst Roomy (sym (first-held zeroed)) empty-roomy;
@@ -159,13 +158,13 @@ first-ready zeroed right =
 
 -- so there are calls on a new session for every file, however it is cut
 pub calls-end : (rooms : Rooms) → Zeroed rooms → RightLengths rooms → (pieces : List (List ℕ))
-    → (written : List ℕ) × Calls (sessionOf empty) rooms [] 0 pieces written
+    → (written : List ℕ) × Calls (sessionOf nothingHeld) rooms [] 0 pieces written
 calls-end rooms zeroed right pieces =
     let all = steps-end pieces in
-    (all .0, steps-calls (all .1) (sessionOf empty) rooms [] 0 (first-ready zeroed right) (first-held zeroed) refl)
+    (all .0, steps-calls (all .1) (sessionOf nothingHeld) rooms [] 0 (first-ready zeroed right) (first-held zeroed) refl)
 
 -- and what they list is the file's listing
-pub calls-give : (rooms : Rooms) → Zeroed rooms → RightLengths rooms → (pieces : List (List ℕ)) → Calls (sessionOf empty) rooms [] 0 pieces (listing (joined pieces))
+pub calls-give : (rooms : Rooms) → Zeroed rooms → RightLengths rooms → (pieces : List (List ℕ)) → Calls (sessionOf nothingHeld) rooms [] 0 pieces (listing (joined pieces))
 calls-give rooms zeroed right pieces =
     let all = calls-end rooms zeroed right pieces in
-    subst (Calls (sessionOf empty) rooms [] 0 pieces) (calls-list zeroed (all .1)) (all .1)
+    subst (Calls (sessionOf nothingHeld) rooms [] 0 pieces) (calls-list zeroed (all .1)) (all .1)

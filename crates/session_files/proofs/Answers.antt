@@ -11,7 +11,7 @@ use Rattle.chip.specs.Dots.{ran}
 use Rattle.chip.specs.declared.dots.Report.{Report}
 use Rattle.session_records.specs.declared.record.Record.the-variants.{Write, Dots, Line}
 use Rattle.session_listing.specs.Text as entry
-use Rattle.session_answers.specs.Came.{listed}
+use Rattle.session_answers.specs.Status.{listed}
 use Rattle.session_rooms.specs.Rooms.{roomFaults}
 use Rattle.line_setup.specs.Controls.{controlsOf}
 use Rattle.line.specs.Cells.{lentOf}
@@ -38,15 +38,15 @@ call-order session rooms = refl
 module _ (held : Held) (body : List ℕ) {refusal : Numbered} where
   -- a write
   pub write-refused : (address value : ℕ) → written (held .chip) address value .1 ≡ refused refusal
-      → acted held (Write address value) body .1 ≡ listed (entry.refused refusal)
-  write-refused address value is = ap (λ (outcome : Outcome Numbered (Unit {0})). listed (entryOf entry.ok outcome)) is
+      → acted held (Write address value) body .1 ≡ listed (entry.saysRefused refusal)
+  write-refused address value is = ap (λ (outcome : Outcome Numbered (Unit {0})). listed (entryOf entry.saysOk outcome)) is
 
   -- dots
-  pub dots-refused : (count : ℕ) → ran (held .chip) count .1 ≡ refused refusal → acted held (Dots count) body .1 ≡ listed (entry.refused refusal)
+  pub dots-refused : (count : ℕ) → ran (held .chip) count .1 ≡ refused refusal → acted held (Dots count) body .1 ≡ listed (entry.saysRefused refusal)
   dots-refused count is = ap (λ (outcome : Outcome Numbered Report). listed (entryOf (atPosition (ran (held .chip) count .0 .0 .at)) outcome)) is
 
   -- a line
   pub line-refused : (y : ℕ)
       → drawn (held .chip .0) y (lentOf (held .chip .1) (held .table) (held .normal) (held .overlay)) (held .output) .1 ≡ refused refusal
-      → acted held (Line y) body .1 ≡ listed (entry.refused refusal)
-  line-refused y is = ap (λ (outcome : Outcome Numbered (Unit {0})). listed (entryOf (entry.line y (controlsOf (held .chip .0 .control) .width)) outcome)) is
+      → acted held (Line y) body .1 ≡ listed (entry.saysRefused refusal)
+  line-refused y is = ap (λ (outcome : Outcome Numbered (Unit {0})). listed (entryOf (entry.saysLine y (controlsOf (held .chip .0 .control) .width)) outcome)) is

@@ -9,10 +9,10 @@ use Rattle.rules.specs.Rule.{Outcome, ok}
 use Rattle.rules.specs.Faults.{Numbered}
 use Rattle.rules.specs.Lists.{joined}
 use Rattle.rules.proofs.Faults.{none-holds, accepted-clear}
-use Rattle.session_listing.specs.Text.{refused, text}
-use Rattle.session_answers.specs.Came.{Came, listed}
+use Rattle.session_listing.specs.Text.{saysRefused, text}
+use Rattle.session_answers.specs.Status.{Status, listed}
 use Rattle.session_answers.proofs.ToListing.{came-of}
-use Rattle.session.specs.Held.{Held, empty}
+use Rattle.session.specs.Held.{Held, nothingHeld}
 use Rattle.session.specs.Record.{stepped}
 use Rattle.session.specs.Listing.{listing}
 use Rattle.session.specs.Lent.{Rooms, heldIn, laid, roomsWith, sessionOf}
@@ -32,10 +32,10 @@ there-again room bytes = take-at bytes (drop (length bytes) room) (length bytes)
 pub held-again : (rooms : Rooms) (held : Held) → heldIn (sessionOf held) (roomsWith rooms held) ≡ held
 held-again rooms held = rw (there-again (rooms .table) (held .table), there-again (rooms .normal) (held .normal), there-again (rooms .overlay) (held .overlay)) refl
 
-module _ (session : Session) (rooms : Rooms) (bytes : List ℕ) (place : ℕ) (last : Bool) {left : Left} {came : Came}
+module _ (session : Session) (rooms : Rooms) (bytes : List ℕ) (place : ℕ) (last : Bool) {left : Left} {came : Status}
     (is : sessionStep session rooms bytes place last ≡ (left, ok came)) where
   -- what the step over what is held leaves and comes to
-  abbrev step : (Held × ℕ) × Came
+  abbrev step : (Held × ℕ) × Status
   step = stepped last (heldIn session rooms) (drop place bytes)
 
   -- a call that isn't refused is that step
@@ -44,29 +44,29 @@ module _ (session : Session) (rooms : Rooms) (bytes : List ℕ) (place : ℕ) (l
   call-is =
       let before : Left = ((session, place), rooms) in
       let done = afterStep session rooms bytes place last in
-      let clear = accepted-clear before done (stepFaults session rooms) came (ap (λ (all : Left × Outcome Numbered Came). all .1) is) in
+      let clear = accepted-clear before done (stepFaults session rooms) came (ap (λ (all : Left × Outcome Numbered Status). all .1) is) in
       let both = sym is ∙ none-holds before done (stepFaults session rooms) clear in
-      ap (λ (all : Left × Outcome Numbered Came). (all .0, came-of came (all .1))) both
+      ap (λ (all : Left × Outcome Numbered Status). (all .0, came-of came (all .1))) both
 
   -- it comes to the same
   same-came : step .1 ≡ came
   unfolding afterStep
-  same-came = ap (λ (all : Left × Came). all .1) (sym call-is)
+  same-came = ap (λ (all : Left × Status). all .1) (sym call-is)
 
   -- what it leaves is what the step holds
   pub same-held : heldIn (left .0 .0) (left .1) ≡ step .0 .0
   unfolding afterStep
-  same-held = ap (λ (all : Left × Came). heldIn (all .0 .0 .0) (all .0 .1)) call-is ∙ held-again rooms (step .0 .0)
+  same-held = ap (λ (all : Left × Status). heldIn (all .0 .0 .0) (all .0 .1)) call-is ∙ held-again rooms (step .0 .0)
 
   -- its output too
   pub same-output : left .1 .output ≡ step .0 .0 .output
   unfolding afterStep
-  same-output = ap (λ (all : Left × Came). all .0 .1 .output) call-is
+  same-output = ap (λ (all : Left × Status). all .0 .1 .output) call-is
 
   -- and the next record stands where the step says
   pub same-place : drop (left .0 .1) bytes ≡ drop (step .0 .1) (drop place bytes)
   unfolding afterStep
-  same-place = ap (λ (all : Left × Came). drop (all .0 .0 .1) bytes) call-is ∙ sym (drop-drop (step .0 .1) place bytes)
+  same-place = ap (λ (all : Left × Status). drop (all .0 .0 .1) bytes) call-is ∙ sym (drop-drop (step .0 .1) place bytes)
 
 -- calls are steps over what is held
 pub calls-steps : {session : Session} {rooms : Rooms} {bytes : List ℕ} {place : ℕ} {pieces : List (List ℕ)} {written : List ℕ}
@@ -85,7 +85,7 @@ calls-steps {session} {rooms} {bytes} {place} (lends {next = next} {left = left}
 calls-steps {session} {rooms} {bytes} {place} (lists {next = next} {left = left} {at = at} {pieces = pieces} {rest = rest} {entry = entry} is others) =
     let last = none pieces in
     let step = stepped last (heldIn session rooms) (drop place bytes) in
-    let lists-so : step ≡ (step .0, listed entry) = ap (λ (came : Came). (step .0, came)) (same-came session rooms bytes place last is) in
+    let lists-so : step ≡ (step .0, listed entry) = ap (λ (came : Status). (step .0, came)) (same-came session rooms bytes place last is) in
     subst (λ (output : List ℕ). Steps (heldIn session rooms) (drop place bytes) pieces (text entry output ++ rest)) (sym (same-output session rooms bytes place last is))
     (steps.lists lists-so
     (subst (λ (unread : List ℕ). Steps (step .0 .0) unread pieces rest) (same-place session rooms bytes place last is)
@@ -97,14 +97,14 @@ calls-steps {session} {rooms} {bytes} {place} (stops {pieces = pieces} {refusal 
     let output-is =
     same-output session rooms bytes place last is
     ∙ ap (λ (all : Held × ℕ). all .0 .output) (stopped-leaves last (heldIn session rooms) (drop place bytes) stopped-so) in
-    subst (λ (output : List ℕ). Steps (heldIn session rooms) (drop place bytes) pieces (text (refused refusal) output)) (sym output-is) (steps.stops stopped-so)
+    subst (λ (output : List ℕ). Steps (heldIn session rooms) (drop place bytes) pieces (text (saysRefused refusal) output)) (sym output-is) (steps.stops stopped-so)
 
 -- in zeroed rooms a new session holds what there is at first
-pub first-held : {rooms : Rooms} → Zeroed rooms → heldIn (sessionOf empty) rooms ≡ empty
+pub first-held : {rooms : Rooms} → Zeroed rooms → heldIn (sessionOf nothingHeld) rooms ≡ nothingHeld
 first-held zeroed = rw (zeroed .store-zero, zeroed .output-zero) refl
 
 -- from zeroed rooms, calls on a new session list the file's listing, however it is cut
 pub calls-list : {rooms : Rooms} {bytes : List ℕ} {pieces : List (List ℕ)} {written : List ℕ} → Zeroed rooms
-    → Calls (sessionOf empty) rooms bytes 0 pieces written → written ≡ listing (bytes ++ joined pieces)
+    → Calls (sessionOf nothingHeld) rooms bytes 0 pieces written → written ≡ listing (bytes ++ joined pieces)
 calls-list {rooms} {bytes} {pieces} {written} zeroed calls =
     cut-lists (subst (λ (held : Held). Steps held bytes pieces written) (first-held zeroed) (calls-steps calls))

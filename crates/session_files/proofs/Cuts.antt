@@ -9,9 +9,9 @@ use lib.Seq.{drop-append-le}
 use Rattle.rules.specs.Faults.{Numbered}
 use Rattle.rules.specs.Lists.{joined}
 use Rattle.rules.proofs.Cases.{impossible}
-use Rattle.session_listing.specs.Text.{Listed, refused, text}
-use Rattle.session_answers.specs.Came.{Came, listed, ended, waits, stopped}
-use Rattle.session.specs.Held.{Held, empty}
+use Rattle.session_listing.specs.Text.{EntrySays, saysRefused, text}
+use Rattle.session_answers.specs.Status.{Status, listed, ended, needsMore, stopped}
+use Rattle.session.specs.Held.{Held, nothingHeld}
 use Rattle.session.specs.Record.{stepped}
 use Rattle.session.specs.Listing.{listingFrom, listing}
 use Rattle.session_files.specs.Steps.{none, Steps, lends, lists, ends, stops}
@@ -22,7 +22,7 @@ use Rattle.session_files.proofs.Behind.{step-of-whole}
 
 module _ (count : ℕ) (held : Held) (bytes : List ℕ) where
   -- it lists an entry
-  listing-lists : {after : Held} {taken : ℕ} {entry : Listed} → stepped true held bytes ≡ ((after, taken), listed entry)
+  listing-lists : {after : Held} {taken : ℕ} {entry : EntrySays} → stepped true held bytes ≡ ((after, taken), listed entry)
       → listingFrom (suc count) held bytes ≡ text entry (after .output) ++ listingFrom count after (drop taken bytes)
   listing-lists e = rw e
 
@@ -31,13 +31,13 @@ module _ (count : ℕ) (held : Held) (bytes : List ℕ) where
   listing-ends e = rw e
 
   -- it finds a fault of the file
-  listing-stops : {refusal : Numbered} → stepped true held bytes .1 ≡ stopped refusal → listingFrom (suc count) held bytes ≡ text (refused refusal) (held .output)
+  listing-stops : {refusal : Numbered} → stepped true held bytes .1 ≡ stopped refusal → listingFrom (suc count) held bytes ≡ text (saysRefused refusal) (held .output)
   unfolding text
   listing-stops e = rw (e, append-nil)
 
 -- ---- the steps list the listing
 
-module _ (held : Held) (unread : List ℕ) (pieces : List (List ℕ)) {after : Held} {taken : ℕ} {entry : Listed}
+module _ (held : Held) (unread : List ℕ) (pieces : List (List ℕ)) {after : Held} {taken : ℕ} {entry : EntrySays}
     (e : stepped (none pieces) held unread ≡ ((after, taken), listed entry)) where
   -- a step that lists an entry
   lists-entry : stepped (none pieces) held unread .1 ≡ listed entry
@@ -51,7 +51,7 @@ module _ (held : Held) (unread : List ℕ) (pieces : List (List ℕ)) {after : H
   lists-rest : drop taken (unread ++ joined pieces) ≡ drop taken unread ++ joined pieces
   lists-rest =
       let takes = listed-takes (none pieces) held unread lists-entry in
-      let enough : taken ≤ length unread = rw (sym takes ∙ ap (λ (s : (Held × ℕ) × Came). s .0 .1) e) at (listed-there (none pieces) held unread lists-entry) in
+      let enough : taken ≤ length unread = rw (sym takes ∙ ap (λ (s : (Held × ℕ) × Status). s .0 .1) e) at (listed-there (none pieces) held unread lists-entry) in
       drop-append-le taken unread (joined pieces) enough
 
   -- it counts its record
@@ -70,18 +70,18 @@ steps-list (lists {held = held} {after = after} {unread = unread} {pieces = piec
     (steps-list steps left (omega (arith, lists-counts held unread pieces e)) ∙ ap (listingFrom (suc left) after) (sym (lists-rest held unread pieces e)))
     ∙ sym (listing-lists (suc left) held (unread ++ joined pieces) (lists-whole held unread pieces e))
 steps-list (ends {held = held} {unread = unread} {pieces = pieces} e) left few =
-    sym (listing-ends left held (unread ++ joined pieces) (ap (λ (s : (Held × ℕ) × Came). s .1) (step-of-whole held unread pieces (λ more. impossible cc)) ∙ e))
+    sym (listing-ends left held (unread ++ joined pieces) (ap (λ (s : (Held × ℕ) × Status). s .1) (step-of-whole held unread pieces (λ more. impossible cc)) ∙ e))
 steps-list (stops {held = held} {unread = unread} {pieces = pieces} e) left few =
-    sym (listing-stops left held (unread ++ joined pieces) (ap (λ (s : (Held × ℕ) × Came). s .1) (step-of-whole held unread pieces (λ more. impossible cc)) ∙ e))
+    sym (listing-stops left held (unread ++ joined pieces) (ap (λ (s : (Held × ℕ) × Status). s .1) (step-of-whole held unread pieces (λ more. impossible cc)) ∙ e))
 
 -- however a file is cut, its steps list its listing, from the bytes that are lent at first
-pub cut-lists : {first : List ℕ} {pieces : List (List ℕ)} {text : List ℕ} → Steps empty first pieces text → text ≡ listing (first ++ joined pieces)
+pub cut-lists : {first : List ℕ} {pieces : List (List ℕ)} {text : List ℕ} → Steps nothingHeld first pieces text → text ≡ listing (first ++ joined pieces)
 unfolding listing
 cut-lists steps = steps-list steps 1000000 refl
 
 -- two cuts of the same bytes list the same text
 pub cuts-agree : {pieces others : List (List ℕ)} {text other : List ℕ} → joined pieces ≡ joined others
-    → Steps empty [] pieces text → Steps empty [] others other → text ≡ other
+    → Steps nothingHeld [] pieces text → Steps nothingHeld [] others other → text ≡ other
 cuts-agree same steps others = cut-lists steps ∙ ap listing same ∙ sym (cut-lists others)
 
 -- ---- the steps come to an end
@@ -91,17 +91,17 @@ abbrev Lists : Held → List ℕ → List (List ℕ) → Type 0
 Lists held unread pieces = (listing : List ℕ) × Steps held unread pieces listing
 
 module _ (held : Held) (next : (after : Held) → after .records ≡ held .records + 1 → held .records + 1 ≤ 1000000 → (unread : List ℕ) (pieces : List (List ℕ)) → Lists after unread pieces) where
-  module _ (unread : List ℕ) (pieces : List (List ℕ)) (more : stepped (none pieces) held unread .1 ≡ waits → Lists held unread pieces) where
+  module _ (unread : List ℕ) (pieces : List (List ℕ)) (more : stepped (none pieces) held unread .1 ≡ needsMore → Lists held unread pieces) where
     -- by what the step comes to
-    ends-by : (came : Came) → stepped (none pieces) held unread .1 ≡ came → Lists held unread pieces
+    ends-by : (came : Status) → stepped (none pieces) held unread .1 ≡ came → Lists held unread pieces
     ends-by (listed entry) e =
         let taken = stepped (none pieces) held unread .0 .1 in
         let after = stepped (none pieces) held unread .0 .0 in
         let rest = next after (listed-counts (none pieces) held unread e) (omega (arith, listed-below (none pieces) held unread e)) (drop taken unread) pieces in
-        (text entry (after .output) ++ rest .0, lists (ap (λ (came : Came). ((after, taken), came)) e) (rest .1))
+        (text entry (after .output) ++ rest .0, lists (ap (λ (came : Status). ((after, taken), came)) e) (rest .1))
     ends-by ended e = ([], ends e)
-    ends-by waits e = more e
-    ends-by (stopped refusal) e = (text (refused refusal) (held .output), stops e)
+    ends-by needsMore e = more e
+    ends-by (stopped refusal) e = (text (saysRefused refusal) (held .output), stops e)
 
   -- the pieces, one after another
   ends-lent : (unread : List ℕ) (pieces : List (List ℕ)) → Lists held unread pieces
@@ -115,5 +115,5 @@ ends-within zero held few = ends-lent held (λ after counts below. absurd (omega
 ends-within (suc left) held few = ends-lent held (λ after counts below. ends-within left after (omega arith))
 
 -- whatever the pieces, the steps come to an end
-pub steps-end : (pieces : List (List ℕ)) → (listing : List ℕ) × Steps empty [] pieces listing
-steps-end = ends-within 1000000 empty refl []
+pub steps-end : (pieces : List (List ℕ)) → (listing : List ℕ) × Steps nothingHeld [] pieces listing
+steps-end = ends-within 1000000 nothingHeld refl []

@@ -8,11 +8,11 @@ use lib.ListN.{length, take, drop, length-append, take-append-drop}
 use lib.Seq.{drop-append-le, length-take-le, take-add, drop-at}
 use Rattle.rules.proofs.Cases.{impossible}
 use Rattle.session_records.specs.Parts.{lengthOf}
-use Rattle.session_records.specs.Found.{found}
+use Rattle.session_records.specs.RecordAt.{recordAt}
 use Rattle.session_records.specs.declared.record.Record.{Record}
-use Rattle.session_records.specs.declared.record.Found.the-variants.{Is}
+use Rattle.session_records.specs.declared.record.RecordAt.the-variants.{Is}
 use Rattle.session_records.proofs.Accepted.{found-accepted}
-use Rattle.session.specs.Held.{Held, empty}
+use Rattle.session.specs.Held.{Held, nothingHeld}
 use Rattle.session.specs.Record.{contextOf, stepped}
 use Rattle.session.specs.Listing.{listingFrom, listing}
 use Rattle.session_files.specs.Ends.{endsFrom, takenFrom, reachesEnd, toEnd}
@@ -47,7 +47,7 @@ module _ (rest : List ℕ) where
 -- where the run over a file reaches its end record, bytes behind the file change nothing
 pub after-end : (file after : List ℕ) → reachesEnd file ≡ true → listing (file ++ after) ≡ listing file
 unfolding listing reachesEnd
-after-end file after e = nothing-behind after 1000001 empty file e
+after-end file after e = nothing-behind after 1000001 nothingHeld file e
 
 -- ---- the bytes up to the end record
 
@@ -55,7 +55,7 @@ after-end file after e = nothing-behind after 1000001 empty file e
 abbrev EndsWithin : ℕ → Type 0
 EndsWithin count = (held : Held) (bytes : List ℕ) → endsFrom count held bytes ≡ true → endsFrom count held (take (takenFrom count held bytes) bytes) ≡ true
 
-module _ (held : Held) (bytes : List ℕ) {which : Record} (is : found (contextOf held true) bytes ≡ Is which (lengthOf bytes)) (more : ℕ) where
+module _ (held : Held) (bytes : List ℕ) {which : Record} (is : recordAt (contextOf held true) bytes ≡ Is which (lengthOf bytes)) (more : ℕ) where
   -- the bytes of a record
   abbrev size : ℕ
   size = 3 + lengthOf bytes
@@ -83,7 +83,7 @@ module _ (held : Held) (bytes : List ℕ) {which : Record} (is : found (contextO
   front-step : stepped true held (take (3 + lengthOf bytes + more) bytes) ≡ stepped true held bytes
   front-step =
       ap (stepped true held) (take-add size more bytes)
-      ∙ record-alone held front (drop more (drop size bytes)) true (ap (found (contextOf held true)) front-rest ∙ is) front-long true
+      ∙ record-alone held front (drop more (drop size bytes)) true (ap (recordAt (contextOf held true)) front-rest ∙ is) front-long true
       ∙ ap (stepped true held) front-rest
 
   -- behind its record the same bytes are left
@@ -109,7 +109,7 @@ module _ (file : List ℕ) (e : reachesEnd file ≡ true) where
   -- the run over the bytes of a file up to its end record, with it, reaches it
   pub end-within : reachesEnd (take (toEnd file) file) ≡ true
   unfolding reachesEnd toEnd
-  end-within = ends-within 1000001 empty file e
+  end-within = ends-within 1000001 nothingHeld file e
 
   -- files that have the same bytes up to the end record have the same listing
   pub same-to-end : (other : List ℕ) → take (toEnd file) other ≡ take (toEnd file) file → listing other ≡ listing file

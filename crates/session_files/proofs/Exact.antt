@@ -9,28 +9,28 @@ use Rattle.rules.specs.Checked.{verdict}
 use Rattle.rules.proofs.Cases.{impossible}
 use Rattle.rules.proofs.Checked.{verdict-first, first-verdict}
 use Rattle.session_records.specs.Parts.{recordOf, lengthOf}
-use Rattle.session_records.specs.Found.{found}
+use Rattle.session_records.specs.RecordAt.{recordAt}
 use Rattle.session_records.specs.declared.record.Record.{Record}
-use Rattle.session_records.specs.declared.record.Found.the-variants.{Is}
+use Rattle.session_records.specs.declared.record.RecordAt.the-variants.{Is}
 use Rattle.session_records.proofs.Accepted.{found-accepted}
 use Rattle.session_records.proofs.Answers.{found-wrong, found-cut-much, found-cut, found-much, found-is}
 use Rattle.session_records.proofs.Judged.{Judged, faulty, waiting, cut-much, cut, much, good, judged}
-use Rattle.session_answers.specs.Came.{Came, listed, ended, waits, stopped}
+use Rattle.session_answers.specs.Status.{Status, listed, ended, needsMore, stopped}
 use Rattle.session.specs.Held.{Held}
 use Rattle.session.specs.Record.{contextOf, stepped}
 use Rattle.session_files.specs.Faults.{recordFaults}
 use Rattle.session_files.proofs.Step.{Stepped, lists, ends, lacks, stops, by-found, step}
 
 -- what a step says of its record: a fault of the file, or none
-abbrev verdictOf : Came → Outcome Numbered (Unit {0})
+abbrev verdictOf : Status → Outcome Numbered (Unit {0})
 verdictOf (listed entry) = ok tt
 verdictOf ended = ok tt
-verdictOf waits = ok tt
+verdictOf needsMore = ok tt
 verdictOf (stopped refusal) = refused refusal
 
 module _ (held : Held) (bytes : List ℕ) where
   -- a record that was found is no fault
-  record-fine : Stepped true held bytes → found (contextOf held true) bytes ≡ Is (recordOf bytes) (lengthOf bytes) → verdictOf (stepped true held bytes .1) ≡ ok tt
+  record-fine : Stepped true held bytes → recordAt (contextOf held true) bytes ≡ Is (recordOf bytes) (lengthOf bytes) → verdictOf (stepped true held bytes .1) ≡ ok tt
   record-fine (lists is counts s) e = rw s
   record-fine (ends is s) e = rw s
   record-fine (lacks is s) e = rw s
@@ -54,10 +54,10 @@ module _ (held : Held) (bytes : List ℕ) where
   stopped-exactly refusal e = first-verdict (recordFaults (contextOf held true) bytes) refusal (sym told-so ∙ ap verdictOf e)
 
   -- only a stop says a fault
-  stopped-by : (came : Came) {refusal : Numbered} → verdictOf came ≡ refused refusal → came ≡ stopped refusal
+  stopped-by : (came : Status) {refusal : Numbered} → verdictOf came ≡ refused refusal → came ≡ stopped refusal
   stopped-by (listed entry) e = impossible cc
   stopped-by ended e = impossible cc
-  stopped-by waits e = impossible cc
+  stopped-by needsMore e = impossible cc
   stopped-by (stopped refusal) e = cc
 
   -- and wherever one holds, it stops the run
@@ -66,9 +66,9 @@ module _ (held : Held) (bytes : List ℕ) where
       stopped-by (stepped true held bytes .1) (told-so ∙ verdict-first (recordFaults (contextOf held true) bytes) refusal first)
 
   -- a record is found only where none holds
-  pub found-clear : {which : Record} {count : ℕ} → found (contextOf held true) bytes ≡ Is which count → Clear (recordFaults (contextOf held true) bytes)
+  pub found-clear : {which : Record} {count : ℕ} → recordAt (contextOf held true) bytes ≡ Is which count → Clear (recordFaults (contextOf held true) bytes)
   found-clear e = let fits = found-accepted (contextOf held true) bytes e in (fits .right, (fits .few, (fits .whole, tt)))
 
   -- and wherever none holds, the record of these bytes is found
-  pub clear-found : Clear (recordFaults (contextOf held true) bytes) → found (contextOf held true) bytes ≡ Is (recordOf bytes) (lengthOf bytes)
+  pub clear-found : Clear (recordFaults (contextOf held true) bytes) → recordAt (contextOf held true) bytes ≡ Is (recordOf bytes) (lengthOf bytes)
   clear-found clear = found-is (contextOf held true) bytes (clear .0) (clear .1 .1 .0) (clear .1 .0)

@@ -6,11 +6,11 @@ use mathlib.Core.List.{List, [], _∷_, _++_}
 use lib.ListN.{length, drop}
 use lib.Seq.{take-at}
 use Rattle.rules.specs.Rule.{ok}
-use Rattle.session_records.specs.Found.{found}
+use Rattle.session_records.specs.RecordAt.{recordAt}
 use Rattle.session_records.specs.declared.record.Record.the-variants.{Line}
-use Rattle.session_records.specs.declared.record.Found.the-variants.{Is}
+use Rattle.session_records.specs.declared.record.RecordAt.the-variants.{Is}
 use Rattle.session_listing.specs.Text.{ascii, ended, spaced, pixels, text}
-use Rattle.session_answers.specs.Came.{textOf}
+use Rattle.session_answers.specs.Status.{textOf}
 use Rattle.line_setup.specs.Controls.{controlsOf}
 use Rattle.line.specs.Cells.{Lent, lentOf}
 use Rattle.line.specs.Line.{lineOf}
@@ -25,7 +25,7 @@ abbrev lentBy : Held → Lent
 lentBy held = lentOf (held .chip .1) (held .table) (held .normal) (held .overlay)
 
 -- a line record whose line is drawn lists `line y`, and each colour of the active width on a line of its own
-pub line-lists : (last : Bool) (held : Held) (bytes : List ℕ) {y count : ℕ} {colours : List ℕ} → found (contextOf held last) bytes ≡ Is (Line y) count
+pub line-lists : (last : Bool) (held : Held) (bytes : List ℕ) {y count : ℕ} {colours : List ℕ} → recordAt (contextOf held last) bytes ≡ Is (Line y) count
     → lineOf (setupOf (held .chip .0) y (lentBy held) (length (held .output))) (lentBy held) ≡ ok colours
     → textOf (stepped last held bytes .0 .0 .output) (stepped last held bytes .1) ≡ ended (ascii "line" ++ spaced (y ∷ [])) ++ pixels colours
 unfolding drawn text setupOf

@@ -6,23 +6,23 @@ use mathlib.Core.List.{List, [], _∷_}
 use native.Mathlib.Omega.{arith}
 use lib.ListN.{length, length-append, length-replicate}
 use Rattle.chip_registers.specs.Store.{storeLength}
-use Rattle.chip.specs.State.{Whole}
+use Rattle.chip.specs.State.{HasArrays}
 use Rattle.chip.proofs.Good.{fresh-whole}
-use Rattle.chip_history.specs.Calls.{Call, write, dots, after, end}
+use Rattle.chip_history.specs.Calls.{Call, write, dots, leftBy, end}
 use Rattle.chip_history.proofs.Calls.{call-whole}
 use Rattle.chip_history.proofs.Stays.{stays-length}
 use Rattle.session_records.specs.Parts.{bodyOf}
-use Rattle.session_records.specs.Found.{found}
+use Rattle.session_records.specs.RecordAt.{recordAt}
 use Rattle.session_records.specs.declared.record.Record.{Record}
 use Rattle.session_records.specs.declared.record.Record.the-variants.{End, Write, Dots, Table, Normal, Overlay, Line}
-use Rattle.session_records.specs.declared.record.Found.{Found}
-use Rattle.session_records.specs.declared.record.Found.the-variants.{Is, More, Refused}
+use Rattle.session_records.specs.declared.record.RecordAt.{RecordAt}
+use Rattle.session_records.specs.declared.record.RecordAt.the-variants.{Is, More, Refused}
 use Rattle.session_records.proofs.Whole.{body-long}
 use Rattle.session_records.proofs.Accepted.{found-accepted}
 use Rattle.session_records.proofs.Limits.{table-fits, normal-fits, overlay-fits}
 use Rattle.session_rooms.specs.Rooms.{longestLine}
 use Rattle.line.specs.Cells.{lentOf}
-use Rattle.session.specs.Held.{Held, empty, withChip}
+use Rattle.session.specs.Held.{Held, nothingHeld, withChip}
 use Rattle.session.specs.Record.{acted, contextOf, stepped}
 use Rattle.line_reads.proofs.Answers.{state-stays}
 use Rattle.line_reads.proofs.Outputs.{output-length}
@@ -30,7 +30,7 @@ use Rattle.session_files.specs.Calls.{Roomy}
 use Rattle.session_files.proofs.Step.{by-found}
 
 -- at first it has them
-pub empty-roomy : Roomy empty
+pub empty-roomy : Roomy nothingHeld
 empty-roomy =
     record {
       store-long = length-replicate {A = ℕ} storeLength 0;
@@ -43,7 +43,7 @@ empty-roomy =
 
 module _ (held : Held) (roomy : Roomy held) where
   -- a call of the chip leaves the sizes
-  chip-roomy : (call : Call) → Roomy (withChip held (after (held .chip) call))
+  chip-roomy : (call : Call) → Roomy (withChip held (leftBy (held .chip) call))
   unfolding end
   chip-roomy call =
       record {
@@ -57,12 +57,12 @@ module _ (held : Held) (roomy : Roomy held) where
 
   module _ (last : Bool) (bytes : List ℕ) where
     -- the body of a record that was found has its length
-    body-is : {which : Record} {count : ℕ} → found (contextOf held last) bytes ≡ Is which count → length (bodyOf bytes) ≡ count
+    body-is : {which : Record} {count : ℕ} → recordAt (contextOf held last) bytes ≡ Is which count → length (bodyOf bytes) ≡ count
     body-is e = let fits = found-accepted (contextOf held last) bytes e in body-long bytes (fits .whole) ∙ sym (fits .length-is)
 
     -- every record leaves the sizes
-    record-roomy : (which : Record) {count : ℕ} → found (contextOf held last) bytes ≡ Is which count → Roomy (acted held which (bodyOf bytes) .0)
-    unfolding after
+    record-roomy : (which : Record) {count : ℕ} → recordAt (contextOf held last) bytes ≡ Is which count → Roomy (acted held which (bodyOf bytes) .0)
+    unfolding leftBy
     record-roomy End is = roomy
     record-roomy (Write address value) is = chip-roomy (write address value)
     record-roomy (Dots dot-count) is = chip-roomy (dots dot-count)
@@ -101,14 +101,14 @@ module _ (held : Held) (roomy : Roomy held) where
           normal-held = roomy .normal-held;
           overlay-held = roomy .overlay-held;
           output-long = output-length (held .chip .0) y lent (held .output) ∙ roomy .output-long;
-          state-whole = subst Whole (sym (state-stays (held .chip .0) y lent (held .output))) (roomy .state-whole);
+          state-whole = subst HasArrays (sym (state-stays (held .chip .0) y lent (held .output))) (roomy .state-whole);
         }
 
 -- every step keeps them
 pub stays-roomy : (last : Bool) (held : Held) (bytes : List ℕ) → Roomy held → Roomy (stepped last held bytes .0 .0)
-stays-roomy last held bytes roomy = by (found (contextOf held last) bytes) refl
+stays-roomy last held bytes roomy = by (recordAt (contextOf held last) bytes) refl
   where
-    by : (answer : Found) → found (contextOf held last) bytes ≡ answer → Roomy (stepped last held bytes .0 .0)
+    by : (answer : RecordAt) → recordAt (contextOf held last) bytes ≡ answer → Roomy (stepped last held bytes .0 .0)
     by (Is which count) e = rw (by-found last held bytes e) (record-roomy held roomy last bytes which e)
     by More e = rw (by-found last held bytes e) roomy
     by (Refused refusal) e = rw (by-found last held bytes e) roomy

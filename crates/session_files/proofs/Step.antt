@@ -11,26 +11,26 @@ use Rattle.refusals.specs.Refusal.{numbered}
 use Rattle.refusals.specs.declared.Refusal.{Refusal}
 use Rattle.refusals.specs.declared.Refusal.the-variants.{WrongRecord, FileEnds, TooMuch}
 use Rattle.session_records.specs.Parts.{lengthOf, bodyOf}
-use Rattle.session_records.specs.Found.{found}
+use Rattle.session_records.specs.RecordAt.{recordAt}
 use Rattle.session_records.specs.declared.record.Context.{Context}
 use Rattle.session_records.specs.declared.record.Record.{Record}
 use Rattle.session_records.specs.declared.record.Record.the-variants.{End, Write, Dots, Table, Normal, Overlay, Line}
-use Rattle.session_records.specs.declared.record.Found.{Found}
-use Rattle.session_records.specs.declared.record.Found.the-variants.{Is, More, Refused}
+use Rattle.session_records.specs.declared.record.RecordAt.{RecordAt}
+use Rattle.session_records.specs.declared.record.RecordAt.the-variants.{Is, More, Refused}
 use Rattle.session_records.proofs.Answers.{found-wrong, found-more, found-cut-much, found-cut, found-much, found-is}
 use Rattle.session_records.proofs.Judged.{Judged, faulty, waiting, cut-much, cut, much, good, judged}
 use Rattle.session_records.proofs.Accepted.{found-accepted, never-more}
 use Rattle.session_records.proofs.Limits.{numbered-below}
-use Rattle.session_listing.specs.Text.{Listed}
-use Rattle.session_answers.specs.Came.{listed, ended, waits, stopped}
+use Rattle.session_listing.specs.Text.{EntrySays}
+use Rattle.session_answers.specs.Status.{listed, ended, needsMore, stopped}
 use Rattle.session.specs.Held.{Held}
-use Rattle.session.specs.Record.{acted, cameBy, contextOf, stepped}
+use Rattle.session.specs.Record.{acted, statusBy, contextOf, stepped}
 
 -- ---- the four things that a step comes to
 
 -- what a record does lists an entry and counts it; only the end record lists nothing, and leaves all as it was
 data Did (held : Held) (which : Record) (body : List ℕ) : Type 0 where
-  did : {after : Held} {entry : Listed} → acted held which body ≡ (after, listed entry) → after .records ≡ held .records + 1 → Did held which body
+  did : {after : Held} {entry : EntrySays} → acted held which body ≡ (after, listed entry) → after .records ≡ held .records + 1 → Did held which body
   over : which ≡ End → acted held which body ≡ (held, ended) → Did held which body
 
 -- every record does one of the two
@@ -46,24 +46,24 @@ does held (Line y) body = did refl refl
 module _ (last : Bool) (held : Held) (bytes : List ℕ) where
   -- a record was found: an entry is listed, or it is the end; bytes are waited for; a fault stops the run
   pub data Stepped : Type 0 where
-    lists : {which : Record} {after : Held} {entry : Listed} → found (contextOf held last) bytes ≡ Is which (lengthOf bytes) → after .records ≡ held .records + 1
+    lists : {which : Record} {after : Held} {entry : EntrySays} → recordAt (contextOf held last) bytes ≡ Is which (lengthOf bytes) → after .records ≡ held .records + 1
         → stepped last held bytes ≡ ((after, 3 + lengthOf bytes), listed entry) → Stepped
-    ends : found (contextOf held last) bytes ≡ Is End (lengthOf bytes) → stepped last held bytes ≡ ((held, 3 + lengthOf bytes), ended) → Stepped
-    lacks : found (contextOf held last) bytes ≡ More → stepped last held bytes ≡ ((held, 0), waits) → Stepped
-    stops : {refusal : Refusal} → found (contextOf held last) bytes ≡ Refused refusal → stepped last held bytes ≡ ((held, 0), stopped (numbered refusal)) → Stepped
+    ends : recordAt (contextOf held last) bytes ≡ Is End (lengthOf bytes) → stepped last held bytes ≡ ((held, 3 + lengthOf bytes), ended) → Stepped
+    lacks : recordAt (contextOf held last) bytes ≡ More → stepped last held bytes ≡ ((held, 0), needsMore) → Stepped
+    stops : {refusal : Refusal} → recordAt (contextOf held last) bytes ≡ Refused refusal → stepped last held bytes ≡ ((held, 0), stopped (numbered refusal)) → Stepped
 
   -- a step goes by what it found
-  pub by-found : {answer : Found} → found (contextOf held last) bytes ≡ answer → stepped last held bytes ≡ cameBy held bytes answer
+  pub by-found : {answer : RecordAt} → recordAt (contextOf held last) bytes ≡ answer → stepped last held bytes ≡ statusBy held bytes answer
   unfolding stepped
-  by-found e = ap (cameBy held bytes) e
+  by-found e = ap (statusBy held bytes) e
 
   -- so it comes to one of the four
-  step-found : (answer : Found) → found (contextOf held last) bytes ≡ answer → Stepped
+  step-found : (answer : RecordAt) → recordAt (contextOf held last) bytes ≡ answer → Stepped
   step-found (Is which count) e =
-      let is : found (contextOf held last) bytes ≡ Is which (lengthOf bytes) = e ∙ ap (Is which) (found-accepted (contextOf held last) bytes e .length-is) in
+      let is : recordAt (contextOf held last) bytes ≡ Is which (lengthOf bytes) = e ∙ ap (Is which) (found-accepted (contextOf held last) bytes e .length-is) in
       by (does held which (bodyOf bytes)) is
     where
-      by : Did held which (bodyOf bytes) → found (contextOf held last) bytes ≡ Is which (lengthOf bytes) → Stepped
+      by : Did held which (bodyOf bytes) → recordAt (contextOf held last) bytes ≡ Is which (lengthOf bytes) → Stepped
       by (did {after = after} {entry = entry} d counts) is = lists {after = after} {entry = entry} is counts (rw (by-found is, d))
       by (over end d) is = ends (rw end at is) (rw (by-found is, d))
   step-found More e = lacks e (by-found e)
@@ -71,7 +71,7 @@ module _ (last : Bool) (held : Held) (bytes : List ℕ) where
 
   -- every step comes to one of the four
   pub step : Stepped
-  step = step-found (found (contextOf held last) bytes) refl
+  step = step-found (recordAt (contextOf held last) bytes) refl
 
 -- ---- 12 to 14
 
@@ -79,7 +79,7 @@ module _ (last : Bool) (held : Held) (bytes : List ℕ) where
 abbrev Fault : ℕ → Refusal → Type 0
 Fault number refusal = (refusal ≡ WrongRecord number) ⊎ ((refusal ≡ FileEnds number) ⊎ (refusal ≡ TooMuch number))
 
-module _ (context : Context) (bytes : List ℕ) {refusal : Refusal} (e : found context bytes ≡ Refused refusal) where
+module _ (context : Context) (bytes : List ℕ) {refusal : Refusal} (e : recordAt context bytes ≡ Refused refusal) where
   -- by the way in which the bytes are judged
   fault-by : Judged context bytes → Fault (context .number) refusal
   fault-by (faulty w) = inl (cc (found-wrong context bytes w))
@@ -105,7 +105,7 @@ module _ (last : Bool) (held : Held) (bytes : List ℕ) {refusal : Numbered} (e 
   -- a step that stops the run found a fault of the file
   record Stops : Type 0 where
     fault : Refusal
-    found-so : found (contextOf held last) bytes ≡ Refused fault
+    found-so : recordAt (contextOf held last) bytes ≡ Refused fault
     listed-so : refusal ≡ numbered fault
     leaves-so : stepped last held bytes .0 ≡ (held, 0)
 
@@ -136,7 +136,7 @@ module _ (last : Bool) (held : Held) (bytes : List ℕ) {refusal : Numbered} (e 
 
 module _ (last : Bool) (held : Held) (bytes : List ℕ) where
   -- a step that waits leaves all as it was, and takes nothing
-  pub waiting-leaves : stepped last held bytes .1 ≡ waits → stepped last held bytes .0 ≡ (held, 0)
+  pub waiting-leaves : stepped last held bytes .1 ≡ needsMore → stepped last held bytes .0 ≡ (held, 0)
   waiting-leaves e = by (step last held bytes)
     where
       by : Stepped last held bytes → stepped last held bytes .0 ≡ (held, 0)
@@ -146,7 +146,7 @@ module _ (last : Bool) (held : Held) (bytes : List ℕ) where
       by (stops is s) = rw s
 
   -- where the file ends, no step waits
-  pub never-waits : last ≡ true → stepped last held bytes .1 ≡ waits → ⊥
+  pub never-waits : last ≡ true → stepped last held bytes .1 ≡ needsMore → ⊥
   never-waits whole e = by (step last held bytes)
     where
       by : Stepped last held bytes → ⊥
@@ -158,11 +158,11 @@ module _ (last : Bool) (held : Held) (bytes : List ℕ) where
   -- what is known of a step that lists an entry, a refusal too
   pub record Lists : Type 0 where
     pub which : Record
-    pub is : found (contextOf held last) bytes ≡ Is which (lengthOf bytes)
+    pub is : recordAt (contextOf held last) bytes ≡ Is which (lengthOf bytes)
     pub counts : stepped last held bytes .0 .0 .records ≡ held .records + 1
     pub takes : stepped last held bytes .0 .1 ≡ 3 + lengthOf bytes
 
-  module _ {entry : Listed} (e : stepped last held bytes .1 ≡ listed entry) where
+  module _ {entry : EntrySays} (e : stepped last held bytes .1 ≡ listed entry) where
     -- by what the step came to
     lists-by : Stepped last held bytes → Lists
     lists-by (lists {which = which} is counts s) = record { which = which; is = is; counts = rw s counts; takes = rw s }

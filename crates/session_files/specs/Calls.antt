@@ -7,10 +7,10 @@ use lib.ListN.{length, drop, replicate}
 use Rattle.rules.specs.Rule.{ok}
 use Rattle.rules.specs.Faults.{Numbered}
 use Rattle.chip_registers.specs.Store.{storeLength}
-use Rattle.chip.specs.State.{Whole}
+use Rattle.chip.specs.State.{HasArrays}
 use Rattle.session_records.specs.Tags.{longestTable, longestNormal, longestOverlay}
-use Rattle.session_listing.specs.Text.{Listed, refused, text}
-use Rattle.session_answers.specs.Came.{listed, ended, waits, stopped}
+use Rattle.session_listing.specs.Text.{EntrySays, saysRefused, text}
+use Rattle.session_answers.specs.Status.{listed, ended, needsMore, stopped}
 use Rattle.session_rooms.specs.Rooms.{longestLine}
 use Rattle.session.specs.Held.{Held}
 use Rattle.session.specs.Lent.{Rooms}
@@ -22,11 +22,11 @@ use Rattle.session_files.specs.Steps.{none}
 pub data Calls : Session → Rooms → List ℕ → ℕ → List (List ℕ) → List ℕ → Type 0 where
   -- a call waits: bytes are lent in which what was unread stands at a place, and the next piece behind it
   lends : {session next : Session} {rooms left : Rooms} {bytes more piece : List ℕ} {place at from : ℕ} {pieces : List (List ℕ)} {rest : List ℕ}
-      → sessionStep session rooms bytes place false ≡ (((next, at), left), ok waits)
+      → sessionStep session rooms bytes place false ≡ (((next, at), left), ok needsMore)
       → drop from more ≡ drop at bytes ++ piece
       → Calls next left more from pieces rest → Calls session rooms bytes place (piece ∷ pieces) rest
   -- a call lists an entry
-  lists : {session next : Session} {rooms left : Rooms} {bytes : List ℕ} {place at : ℕ} {pieces : List (List ℕ)} {rest : List ℕ} {entry : Listed}
+  lists : {session next : Session} {rooms left : Rooms} {bytes : List ℕ} {place at : ℕ} {pieces : List (List ℕ)} {rest : List ℕ} {entry : EntrySays}
       → sessionStep session rooms bytes place (none pieces) ≡ (((next, at), left), ok (listed entry))
       → Calls next left bytes at pieces rest → Calls session rooms bytes place pieces (text entry (left .output) ++ rest)
   -- a call finds the end record: it is the last
@@ -36,7 +36,7 @@ pub data Calls : Session → Rooms → List ℕ → ℕ → List (List ℕ) → 
   -- a call finds a fault of the file: it is listed, and it is the last
   stops : {session next : Session} {rooms left : Rooms} {bytes : List ℕ} {place at : ℕ} {pieces : List (List ℕ)} {refusal : Numbered}
       → sessionStep session rooms bytes place (none pieces) ≡ (((next, at), left), ok (stopped refusal))
-      → Calls session rooms bytes place pieces (text (refused refusal) (left .output))
+      → Calls session rooms bytes place pieces (text (saysRefused refusal) (left .output))
 
 -- rooms at a session's start: store and output all zero
 pub record Zeroed (rooms : Rooms) : Type 0 where
@@ -56,4 +56,4 @@ pub record Roomy (held : Held) : Type 0 where
   pub normal-held : length (held .normal) ≤ longestNormal
   pub overlay-held : length (held .overlay) ≤ longestOverlay
   pub output-long : length (held .output) ≡ longestLine
-  pub state-whole : Whole (held .chip .0)
+  pub state-whole : HasArrays (held .chip .0)

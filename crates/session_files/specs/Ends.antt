@@ -4,15 +4,15 @@ use mathlib.Core.Bool.{Bool, true, false, cond}
 use mathlib.Core.List.{List}
 use lib.ListN.{drop}
 use Rattle.session_records.specs.Tags.{mostRecords}
-use Rattle.session_answers.specs.Came.{Came, listed, ended, waits, stopped, goesOn}
-use Rattle.session.specs.Held.{Held, empty}
+use Rattle.session_answers.specs.Status.{Status, listed, ended, needsMore, stopped, goesOn}
+use Rattle.session.specs.Held.{Held, nothingHeld}
 use Rattle.session.specs.Record.{stepped}
 
 -- a step found the end record
-abbrev pub isEnd : Came → Bool
+abbrev pub isEnd : Status → Bool
 isEnd (listed entry) = false
 isEnd ended = true
-isEnd waits = false
+isEnd needsMore = false
 isEnd (stopped refusal) = false
 
 -- one of at most so many further records is the end record
@@ -31,8 +31,8 @@ takenFrom (suc count) held bytes =
 
 -- the run over these bytes reaches its end record
 unfoldable pub reachesEnd : List ℕ → Bool
-reachesEnd file = endsFrom (mostRecords + 1) empty file
+reachesEnd file = endsFrom (mostRecords + 1) nothingHeld file
 
 -- the bytes of a file up to its end record, with it
 unfoldable pub toEnd : List ℕ → ℕ
-toEnd file = takenFrom (mostRecords + 1) empty file
+toEnd file = takenFrom (mostRecords + 1) nothingHeld file

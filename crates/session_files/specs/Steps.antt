@@ -5,8 +5,8 @@ use mathlib.Core.Bool.{Bool, true, false}
 use mathlib.Core.List.{List, [], _∷_, _++_}
 use lib.ListN.{drop}
 use Rattle.rules.specs.Faults.{Numbered}
-use Rattle.session_listing.specs.Text.{Listed, refused, text}
-use Rattle.session_answers.specs.Came.{listed, ended, waits, stopped}
+use Rattle.session_listing.specs.Text.{EntrySays, saysRefused, text}
+use Rattle.session_answers.specs.Status.{listed, ended, needsMore, stopped}
 use Rattle.session.specs.Held.{Held}
 use Rattle.session.specs.Record.{stepped}
 
@@ -19,10 +19,10 @@ none (piece ∷ pieces) = false
 pub data Steps : Held → List ℕ → List (List ℕ) → List ℕ → Type 0 where
   -- a step waits: the next piece is lent behind what is unread
   lends : {held : Held} {unread piece : List ℕ} {pieces : List (List ℕ)} {rest : List ℕ}
-      → stepped false held unread .1 ≡ waits
+      → stepped false held unread .1 ≡ needsMore
       → Steps held (unread ++ piece) pieces rest → Steps held unread (piece ∷ pieces) rest
   -- a step lists an entry: the next one starts behind its record
-  lists : {held after : Held} {unread : List ℕ} {pieces : List (List ℕ)} {rest : List ℕ} {taken : ℕ} {entry : Listed}
+  lists : {held after : Held} {unread : List ℕ} {pieces : List (List ℕ)} {rest : List ℕ} {taken : ℕ} {entry : EntrySays}
       → stepped (none pieces) held unread ≡ ((after, taken), listed entry)
       → Steps after (drop taken unread) pieces rest → Steps held unread pieces (text entry (after .output) ++ rest)
   -- a step finds the end record: nothing more is read
@@ -30,4 +30,4 @@ pub data Steps : Held → List ℕ → List (List ℕ) → List ℕ → Type 0 w
       → stepped (none pieces) held unread .1 ≡ ended → Steps held unread pieces []
   -- a step finds a fault of the file: it is listed, and nothing more is read
   stops : {held : Held} {unread : List ℕ} {pieces : List (List ℕ)} {refusal : Numbered}
-      → stepped (none pieces) held unread .1 ≡ stopped refusal → Steps held unread pieces (text (refused refusal) (held .output))
+      → stepped (none pieces) held unread .1 ≡ stopped refusal → Steps held unread pieces (text (saysRefused refusal) (held .output))

@@ -6,14 +6,14 @@ use native.Mathlib.Nat.{min-le-right}
 use native.Mathlib.Omega.{arith}
 use lib.ListN.{take}
 use lib.Seq.{take-nil}
-use Rattle.refusals.specs.Refusal.{numberOf, placeOf}
+use Rattle.refusals.specs.Refusal.{refusalNumber, refusalPlace}
 use Rattle.refusals.specs.declared.Refusal.{Refusal}
 use Rattle.refusals.proofs.Known.{one-value}
 use Rattle.session_listing.specs.Digits.{decimal}
-use Rattle.session_listing.specs.Text.{said, spaced}
-use Rattle.session_listing.specs.Inner.{Told}
-use Rattle.session_listing.specs.declared.entry.Entry.{Entry}
-use Rattle.session_listing.specs.declared.entry.Entry.the-variants.{Ok, At, Line, Refused}
+use Rattle.session_listing.specs.Text.{entrySays, spaced}
+use Rattle.session_listing.specs.Inner.{PartsOf}
+use Rattle.session_listing.specs.declared.entry.ListingEntry.{ListingEntry}
+use Rattle.session_listing.specs.declared.entry.ListingEntry.the-variants.{Ok, At, Line, Refused}
 
 -- a number alone
 pub one-spaced : (number : ℕ) → 32 ∷ decimal number ≡ spaced (number ∷ [])
@@ -40,22 +40,22 @@ module _ (word : List ℕ) (first second : ℕ) where
       append-assoc word (spaced (first ∷ [])) (spaced (second ∷ []))
       ∙ ap (λ (rest : List ℕ). word ++ rest) (rw (take-nil numbers, append-nil (decimal first)))
 
-module _ {entry : Entry} (count : ℕ) where
+module _ {entry : ListingEntry} (count : ℕ) where
   -- what is done
-  pub told-ok : entry ≡ Ok → Told (said entry) count (record { from = 0; letters = 2; numbers = 0; first = 0; second = 0; shown = 0 })
+  pub told-ok : entry ≡ Ok → PartsOf (entrySays entry) count (record { from = 0; letters = 2; numbers = 0; first = 0; second = 0; shown = 0 })
   told-ok is = rw is (record { says = refl; shows = refl; few = omega arith; inside = omega arith; short = omega arith })
 
   -- a position
-  pub told-at : {x y : ℕ} → entry ≡ At x y → Told (said entry) count (record { from = 2; letters = 2; numbers = 2; first = x; second = y; shown = 0 })
+  pub told-at : {x y : ℕ} → entry ≡ At x y → PartsOf (entrySays entry) count (record { from = 2; letters = 2; numbers = 2; first = x; second = y; shown = 0 })
   told-at is = rw is (record { says = refl; shows = refl; few = omega arith; inside = omega arith; short = omega arith })
 
   -- a drawn line
   pub told-line : {y width shown : ℕ} → entry ≡ Line y width → shown ≡ min width count
-      → Told (said entry) count (record { from = 4; letters = 4; numbers = 1; first = y; second = 0; shown = shown })
+      → PartsOf (entrySays entry) count (record { from = 4; letters = 4; numbers = 1; first = y; second = 0; shown = shown })
   told-line {width = width} is shows = rw is (record { says = refl; shows = shows; few = rw shows (min-le-right width count); inside = omega arith; short = omega arith })
 
   -- a refusal, which has one value
-  pub told-refused : {refusal : Refusal} {number place : ℕ} → entry ≡ Refused refusal → number ≡ numberOf refusal → place ≡ placeOf refusal
-      → Told (said entry) count (record { from = 8; letters = 7; numbers = 2; first = number; second = place; shown = 0 })
+  pub told-refused : {refusal : Refusal} {number place : ℕ} → entry ≡ Refused refusal → number ≡ refusalNumber refusal → place ≡ refusalPlace refusal
+      → PartsOf (entrySays entry) count (record { from = 8; letters = 7; numbers = 2; first = number; second = place; shown = 0 })
   told-refused {refusal} is number-is place-is =
       rw is (record { says = rw (number-is, place-is, one-value refusal); shows = refl; few = omega arith; inside = omega arith; short = omega arith })

@@ -6,7 +6,7 @@ use native.Mathlib.Omega.{arith}
 use lib.ListN.{length, length-append, length-drop}
 use lib.Seq.{length-take-le}
 use Rattle.rules.specs.Faults.{placeIn}
-use Rattle.session_listing.specs.Text.{ascii, Listed, ok, at, line, refused, spaced, words, text}
+use Rattle.session_listing.specs.Text.{ascii, EntrySays, saysOk, saysAt, saysLine, saysRefused, spaced, firstLine, text}
 use Rattle.session_listing.specs.Room.{roomFor, placed, Small}
 use Rattle.session_listing.proofs.Decimal.{decimal-at-most-10}
 use Rattle.session_listing.proofs.Pixels.{length-pixels}
@@ -16,16 +16,16 @@ two-short : (first second : ℕ) → first < 2 ^ 32 → second < 2 ^ 32 → leng
 two-short first second small small′ = simp length-append (omega (arith, decimal-at-most-10 first small, decimal-at-most-10 second small′))
 
 -- a first line has at most 31 bytes before its end
-words-short : (listed : Listed) → Small listed → length (words listed) ≤ 31
-words-short ok small = omega arith
-words-short (at x y) small = omega (arith, two-short x y (small .0) (small .1))
-words-short (line y width) small = simp length-append (omega (arith, decimal-at-most-10 y small))
-words-short (refused refusal) small =
+words-short : (listed : EntrySays) → Small listed → length (firstLine listed) ≤ 31
+words-short saysOk small = omega arith
+words-short (saysAt x y) small = omega (arith, two-short x y (small .0) (small .1))
+words-short (saysLine y width) small = simp length-append (omega (arith, decimal-at-most-10 y small))
+words-short (saysRefused refusal) small =
     subst (λ (values : List ℕ). length (ascii "refused" ++ spaced (refusal .number ∷ values)) ≤ 31) (sym (small .2))
     (omega (arith, two-short (refusal .number) (placeIn refusal) (small .0) (small .1)))
 
 -- an entry's text fits the room that it is granted
-pub text-fits : (listed : Listed) (output : List ℕ) → Small listed → length (text listed output) ≤ roomFor listed output
+pub text-fits : (listed : EntrySays) (output : List ℕ) → Small listed → length (text listed output) ≤ roomFor listed output
 unfolding text
 text-fits listed output small = simp (length-append, length-pixels) (omega (arith, words-short listed small))
 

@@ -5,8 +5,8 @@ use mathlib.Core.List.{List, [], _∷_}
 use native.Mathlib.Nat.{div-one}
 use lib.ListN.{length, take, length-take}
 use Rattle.session_listing.specs.Digits.{digit, hex}
-use Rattle.session_listing.specs.Text.{Listed, ok, at, line, refused, ended, shown, text}
-use Rattle.session_listing.specs.Inner.{shownOf, lineAnd, Told}
+use Rattle.session_listing.specs.Text.{EntrySays, saysOk, saysAt, saysLine, saysRefused, ended, coloursShown, text}
+use Rattle.session_listing.specs.Inner.{countShown, lineAnd, PartsOf}
 use Rattle.session_listing.specs.declared.parts.Parts.{Parts}
 use Rattle.session_listing.proofs.Pixels.{take-taken}
 
@@ -18,20 +18,20 @@ unfolding hex
 six-digits colour five four three two one zero = rw (five, four, three, two, one, zero, div-one)
 
 -- as many colours are shown as are counted
-pub shown-length : (listed : Listed) (output : List ℕ) → shownOf listed (length output) ≡ length (shown listed output)
-shown-length ok output = refl
-shown-length (at x y) output = refl
-shown-length (line y width) output = sym (length-take width output)
-shown-length (refused refusal) output = refl
+pub shown-length : (listed : EntrySays) (output : List ℕ) → countShown listed (length output) ≡ length (coloursShown listed output)
+shown-length saysOk output = refl
+shown-length (saysAt x y) output = refl
+shown-length (saysLine y width) output = sym (length-take width output)
+shown-length (saysRefused refusal) output = refl
 
 -- which are the first of the output
-shown-taken : (listed : Listed) (output : List ℕ) → take (length (shown listed output)) output ≡ shown listed output
-shown-taken ok output = refl
-shown-taken (at x y) output = refl
-shown-taken (line y width) output = take-taken width output
-shown-taken (refused refusal) output = refl
+shown-taken : (listed : EntrySays) (output : List ℕ) → take (length (coloursShown listed output)) output ≡ coloursShown listed output
+shown-taken saysOk output = refl
+shown-taken (saysAt x y) output = refl
+shown-taken (saysLine y width) output = take-taken width output
+shown-taken (saysRefused refusal) output = refl
 
 -- an entry's parts, and the colours that these show, make its text
-pub whole-text : (listed : Listed) (output : List ℕ) (parts : Parts) → Told listed (length output) parts → lineAnd parts (take (parts .shown) output) ≡ text listed output
+pub whole-text : (listed : EntrySays) (output : List ℕ) (parts : Parts) → PartsOf listed (length output) parts → lineAnd parts (take (parts .shown) output) ≡ text listed output
 unfolding text
 whole-text listed output parts told = rw (told .says, told .shows, shown-length listed output, shown-taken listed output)

@@ -4,7 +4,7 @@ use mathlib.Core.Path.{_≡_}
 use mathlib.Core.List.{List, [], _∷_, _++_}
 use lib.ListN.{length, take, drop}
 use lib.Seq.{sets}
-use Rattle.session_listing.specs.Text.{ascii, Listed, ok, at, line, refused, ended, spaced, pixels, words}
+use Rattle.session_listing.specs.Text.{ascii, EntrySays, saysOk, saysAt, saysLine, saysRefused, ended, spaced, pixels, firstLine}
 use Rattle.session_listing.specs.declared.parts.Parts.{Parts}
 
 -- some bytes are put into lent ones, from a place on: what these are left as, and the place after the bytes, which is none past the end
@@ -26,16 +26,16 @@ abbrev pub lineAnd : Parts → List ℕ → List ℕ
 lineAnd parts colours = ended (lineOf parts) ++ pixels colours
 
 -- how many colours an entry shows of so many
-abbrev pub shownOf : Listed → ℕ → ℕ
-shownOf ok count = 0
-shownOf (at x y) count = 0
-shownOf (line y width) count = min width count
-shownOf (refused refusal) count = 0
+abbrev pub countShown : EntrySays → ℕ → ℕ
+countShown saysOk count = 0
+countShown (saysAt x y) count = 0
+countShown (saysLine y width) count = min width count
+countShown (saysRefused refusal) count = 0
 
 -- these parts are an entry's, where the output has so many colours
-pub record Told (listed : Listed) (count : ℕ) (parts : Parts) : Type 0 where
-  pub says : lineOf parts ≡ words listed
-  pub shows : parts .shown ≡ shownOf listed count
+pub record PartsOf (listed : EntrySays) (count : ℕ) (parts : Parts) : Type 0 where
+  pub says : lineOf parts ≡ firstLine listed
+  pub shows : parts .shown ≡ countShown listed count
   pub few : parts .shown ≤ count
   pub inside : parts .from + parts .letters ≤ 15
   pub short : parts .letters ≤ 7

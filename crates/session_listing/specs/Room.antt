@@ -6,7 +6,7 @@ use mathlib.Core.List.{List, [], _∷_, _++_}
 use lib.Dec.{leb}
 use lib.ListN.{length, take, drop}
 use Rattle.rules.specs.Faults.{placeIn}
-use Rattle.session_listing.specs.Text.{Listed, ok, at, line, refused, shown, text}
+use Rattle.session_listing.specs.Text.{EntrySays, saysOk, saysAt, saysLine, saysRefused, coloursShown, text}
 use Rattle.session_listing.specs.declared.render.Rendered.{Rendered}
 use Rattle.session_listing.specs.declared.render.Rendered.the-variants.{To, NoRoom}
 
@@ -15,23 +15,23 @@ abbrev pub roomOf : ℕ → ℕ
 roomOf colours = 32 + 7 * colours
 
 -- so for the colours that an entry shows
-abbrev pub roomFor : Listed → List ℕ → ℕ
-roomFor listed output = roomOf (length (shown listed output))
+abbrev pub roomFor : EntrySays → List ℕ → ℕ
+roomFor listed output = roomOf (length (coloursShown listed output))
 
 -- lent bytes with some of them replaced, from a place on
 abbrev pub placed : List ℕ → ℕ → List ℕ → List ℕ
 placed lent place bytes = take place lent ++ bytes ++ drop (place + length bytes) lent
 
 -- where the room is there from a place on, the place after the entry's text, which then stands there; else no room, and the bytes as they were
-abbrev pub rendered : Listed → List ℕ → List ℕ → ℕ → Rendered × List ℕ
+abbrev pub rendered : EntrySays → List ℕ → List ℕ → ℕ → Rendered × List ℕ
 rendered listed output lent place =
     cond (leb (place + roomFor listed output) (length lent))
     (To (place + length (text listed output)), placed lent place (text listed output))
     (NoRoom, lent)
 
 -- an entry whose numbers have 32 bits, and a refusal one value
-abbrev pub Small : Listed → Type 0
-Small ok = Unit {0}
-Small (at x y) = (x < 2 ^ 32) × (y < 2 ^ 32)
-Small (line y width) = y < 2 ^ 32
-Small (refused refusal) = (refusal .number < 2 ^ 32) × (placeIn refusal < 2 ^ 32) × (refusal .values ≡ placeIn refusal ∷ [])
+abbrev pub Small : EntrySays → Type 0
+Small saysOk = Unit {0}
+Small (saysAt x y) = (x < 2 ^ 32) × (y < 2 ^ 32)
+Small (saysLine y width) = y < 2 ^ 32
+Small (saysRefused refusal) = (refusal .number < 2 ^ 32) × (placeIn refusal < 2 ^ 32) × (refusal .values ≡ placeIn refusal ∷ [])

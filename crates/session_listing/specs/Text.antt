@@ -8,8 +8,8 @@ use lib.ListN.{take}
 use Rattle.rules.specs.Faults.{Numbered}
 use Rattle.refusals.specs.Refusal.{numbered}
 use Rattle.session_listing.specs.Digits.{decimal, hex}
-use Rattle.session_listing.specs.declared.entry.Entry.{Entry}
-use Rattle.session_listing.specs.declared.entry.Entry.the-variants.{Ok, At, Line, Refused}
+use Rattle.session_listing.specs.declared.entry.ListingEntry.{ListingEntry}
+use Rattle.session_listing.specs.declared.entry.ListingEntry.the-variants.{Ok, At, Line, Refused}
 
 -- the bytes of a word in ASCII
 abbrev pub ascii : String → List ℕ
@@ -17,18 +17,18 @@ ascii string.[] = []
 ascii (string._∷_ letter word) = code letter ∷ ascii word
 
 -- an entry as the paper has it: what is done, a position, a line drawn so wide, or a refusal's number and values
-pub data Listed : Type 0 where
-  ok : Listed
-  at : ℕ → ℕ → Listed
-  line : ℕ → ℕ → Listed
-  refused : Numbered → Listed
+pub data EntrySays : Type 0 where
+  saysOk : EntrySays
+  saysAt : ℕ → ℕ → EntrySays
+  saysLine : ℕ → ℕ → EntrySays
+  saysRefused : Numbered → EntrySays
 
 -- what an entry says
-abbrev pub said : Entry → Listed
-said Ok = ok
-said (At x y) = at x y
-said (Line y width) = line y width
-said (Refused refusal) = refused (numbered refusal)
+abbrev pub entrySays : ListingEntry → EntrySays
+entrySays Ok = saysOk
+entrySays (At x y) = saysAt x y
+entrySays (Line y width) = saysLine y width
+entrySays (Refused refusal) = saysRefused (numbered refusal)
 
 -- a line of text, ended
 abbrev pub ended : List ℕ → List ℕ
@@ -45,19 +45,19 @@ pixels [] = []
 pixels (colour ∷ colours) = ended (hex colour) ++ pixels colours
 
 -- the first line of an entry, without its end
-abbrev pub words : Listed → List ℕ
-words ok = ascii "ok"
-words (at x y) = ascii "at" ++ spaced (x ∷ y ∷ [])
-words (line y width) = ascii "line" ++ spaced (y ∷ [])
-words (refused refusal) = ascii "refused" ++ spaced (refusal .number ∷ refusal .values)
+abbrev pub firstLine : EntrySays → List ℕ
+firstLine saysOk = ascii "ok"
+firstLine (saysAt x y) = ascii "at" ++ spaced (x ∷ y ∷ [])
+firstLine (saysLine y width) = ascii "line" ++ spaced (y ∷ [])
+firstLine (saysRefused refusal) = ascii "refused" ++ spaced (refusal .number ∷ refusal .values)
 
 -- the colours that an entry shows: of a drawn line, those of the output up to its width
-abbrev pub shown : Listed → List ℕ → List ℕ
-shown ok output = []
-shown (at x y) output = []
-shown (line y width) output = take width output
-shown (refused refusal) output = []
+abbrev pub coloursShown : EntrySays → List ℕ → List ℕ
+coloursShown saysOk output = []
+coloursShown (saysAt x y) output = []
+coloursShown (saysLine y width) output = take width output
+coloursShown (saysRefused refusal) output = []
 
 -- an entry's text: its first line, and each colour that it shows on a line of its own
-unfoldable pub text : Listed → List ℕ → List ℕ
-text listed output = ended (words listed) ++ pixels (shown listed output)
+unfoldable pub text : EntrySays → List ℕ → List ℕ
+text listed output = ended (firstLine listed) ++ pixels (coloursShown listed output)

@@ -2,9 +2,9 @@
 ghost use Prim.Native.Nat.{_<_, min};
 ghost use mathlib.Core.Path.{_≡_};
 ghost use lib.ListN.{getD};
-ghost use Rattle.session_listing.specs.Text.{said};
-ghost use Rattle.session_listing.specs.Inner.{allWords, Told};
-use crate::entry::Entry;
+ghost use Rattle.session_listing.specs.Text.{entrySays};
+ghost use Rattle.session_listing.specs.Inner.{allWords, PartsOf};
+use crate::entry::ListingEntry;
 
 // The line's word, by where it starts among the words and how many letters it has; how many numbers stand behind it, and which; and how many
 // pixels the entry shows.
@@ -38,11 +38,11 @@ fn smaller(one: usize, other: usize) -> usize
 
 impl Parts {
     // The parts of an entry, where the output has so many pixels.
-    pub(crate) fn of(entry: Entry, count: usize) -> Self
-        ensures { λ r. ⌜ Told (said entry) count r ⌝ }
+    pub(crate) fn of(entry: ListingEntry, count: usize) -> Self
+        ensures { λ r. ⌜ PartsOf (entrySays entry) count r ⌝ }
     {
         match entry {
-            Entry::Ok => Self {
+            ListingEntry::Ok => Self {
                 from: 0,
                 letters: 2,
                 numbers: 0,
@@ -50,7 +50,7 @@ impl Parts {
                 second: 0,
                 shown: 0,
             },
-            Entry::At { x, y } => Self {
+            ListingEntry::At { x, y } => Self {
                 from: 2,
                 letters: 2,
                 numbers: 2,
@@ -58,7 +58,7 @@ impl Parts {
                 second: y,
                 shown: 0,
             },
-            Entry::Line { y, width } => Self {
+            ListingEntry::Line { y, width } => Self {
                 from: 4,
                 letters: 4,
                 numbers: 1,
@@ -66,7 +66,7 @@ impl Parts {
                 second: 0,
                 shown: smaller(width, count),
             },
-            Entry::Refused(refusal) => {
+            ListingEntry::Refused(refusal) => {
                 let number = refusal.number();
                 let place = refusal.place();
                 Self {

@@ -2,10 +2,10 @@
 ghost use Prim.Native.Nat.{_+_, _*_, _≤_};
 ghost use mathlib.Core.Path.{_≡_};
 ghost use lib.ListN.{length, take};
-ghost use Rattle.session_listing.specs.Text.{said};
+ghost use Rattle.session_listing.specs.Text.{entrySays};
 ghost use Rattle.session_listing.specs.Room.{rendered};
 ghost use Rattle.session_listing.specs.Inner.{Put, lineAnd};
-use crate::entry::Entry;
+use crate::entry::ListingEntry;
 use crate::parts::Parts;
 use crate::put::put_parts;
 use crate::put::put_pixels;
@@ -27,8 +27,8 @@ fn put_entry(parts: Parts, output: &[u32], lent: &mut [u8], at: usize) -> usize
 }
 
 // An entry's text from a place on, where there is room.
-pub fn render(entry: Entry, output: &[u32], text: &mut [u8], at: usize) -> Rendered
-    ensures { λ r. ⌜ (r, now (text .exit)) ≡ rendered (said entry) (now (output .entry)) (now (text .entry)) at ⌝ }
+pub fn render(entry: ListingEntry, output: &[u32], text: &mut [u8], at: usize) -> Rendered
+    ensures { λ r. ⌜ (r, now (text .exit)) ≡ rendered (entrySays entry) (now (output .entry)) (now (text .entry)) at ⌝ }
 {
     let parts = Parts::of(entry, output.len());
     if text.len() < at {

@@ -16,7 +16,7 @@ use denote.Triple.Clauses.{AtExit}
 use lib.ListN.{drop}
 use Rattle.rules.specs.Unique.{OneAnswer}
 use Rattle.rules.proofs.Unique.{by-equation}
-use Rattle.session_records.specs.Found.{found}
+use Rattle.session_records.specs.RecordAt.{recordAt}
 use Rattle.session_reader.proofs.reader_at as reader-at
 use Rattle.session_reader.proofs.next as next
 use Rattle.session_reader.proofs.read.Reads as read
@@ -32,7 +32,7 @@ ReaderAt κs given reader exit = (reader .bytes ≡ given .0) × (reader .place 
 
 -- what is found is what stands at the reader's place
 abbrev Next : (κs : Lfts 1) → Args next.signature κs → Res next.signature κs → AtExit next.ended κs → Type 0
-Next κs given answer exit = answer ≡ found (given .1 .0) (drop (given .0 .place) (now (given .0 .bytes)))
+Next κs given answer exit = answer ≡ recordAt (given .1 .0) (drop (given .0 .place) (now (given .0 .bytes)))
 
 module _ {M : Type 1} (𝓤 : URA M) (H : Heap 𝓤) (A : Atoms 𝓤) (mem : Memory → SProp 𝓤) (run : Routine → Fun 𝓤) (κs : Lfts 1) where
   reader-at-says : (given : Args reader-at.signature κs) (reader : Res reader-at.signature κs) (exit : AtExit reader-at.ended κs)

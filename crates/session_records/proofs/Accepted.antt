@@ -7,10 +7,10 @@ use lib.ListN.{length}
 use Rattle.rules.proofs.Cases.{impossible}
 use Rattle.session_records.specs.Parts.{recordOf, lengthOf}
 use Rattle.session_records.specs.Faults.{wrong, tooMuch, missing}
-use Rattle.session_records.specs.Found.{found}
+use Rattle.session_records.specs.RecordAt.{recordAt}
 use Rattle.session_records.specs.declared.record.Context.{Context}
 use Rattle.session_records.specs.declared.record.Record.{Record}
-use Rattle.session_records.specs.declared.record.Found.the-variants.{Is, More}
+use Rattle.session_records.specs.declared.record.RecordAt.the-variants.{Is, More}
 use Rattle.session_records.proofs.Whole.{whole-there}
 use Rattle.session_records.proofs.Answers.{found-wrong, found-more, found-cut-much, found-cut, found-much, found-is}
 use Rattle.session_records.proofs.Judged.{Judged, faulty, waiting, cut-much, cut, much, good, judged}
@@ -26,7 +26,7 @@ pub record Accepted (context : Context) (bytes : List ℕ) (is : Record) (count 
 
 module _ (context : Context) (bytes : List ℕ) where
   -- by the way in which the bytes are judged
-  accepted-by : {is : Record} {count : ℕ} → Judged context bytes → found context bytes ≡ Is is count → Accepted context bytes is count
+  accepted-by : {is : Record} {count : ℕ} → Judged context bytes → recordAt context bytes ≡ Is is count → Accepted context bytes is count
   accepted-by (faulty w) e = impossible (cc (found-wrong context bytes w))
   accepted-by (waiting w s l) e = impossible (cc (found-more context bytes w s l))
   accepted-by (cut-much w s l m) e = impossible (cc (found-cut-much context bytes w s l m))
@@ -44,11 +44,11 @@ module _ (context : Context) (bytes : List ℕ) where
       }
 
   -- what is known of a record that was found
-  pub found-accepted : {is : Record} {count : ℕ} → found context bytes ≡ Is is count → Accepted context bytes is count
+  pub found-accepted : {is : Record} {count : ℕ} → recordAt context bytes ≡ Is is count → Accepted context bytes is count
   found-accepted = accepted-by (judged context bytes)
 
   -- by the way in which the bytes are judged
-  more-by : context .last ≡ true → Judged context bytes → found context bytes ≡ More → ⊥
+  more-by : context .last ≡ true → Judged context bytes → recordAt context bytes ≡ More → ⊥
   more-by ends (faulty w) e = impossible (cc (found-wrong context bytes w))
   more-by ends (waiting w s l) e = impossible cc
   more-by ends (cut-much w s l m) e = impossible (cc (found-cut-much context bytes w s l m))
@@ -57,5 +57,5 @@ module _ (context : Context) (bytes : List ℕ) where
   more-by ends (good w s m) e = impossible (cc (found-is context bytes w s m))
 
   -- where the file ends, nothing waits for more
-  pub never-more : context .last ≡ true → found context bytes ≡ More → ⊥
+  pub never-more : context .last ≡ true → recordAt context bytes ≡ More → ⊥
   never-more ends = more-by ends (judged context bytes)

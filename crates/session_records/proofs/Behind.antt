@@ -14,11 +14,11 @@ use Rattle.words.specs.Bytes.{bigEndian}
 use Rattle.session_records.specs.Tags.{known, lengthsOf, allows}
 use Rattle.session_records.specs.Parts.{there, tagOf, lengthOf, bodyOf, inBody, recordsOf, recordOf}
 use Rattle.session_records.specs.Faults.{unknownTag, wrongLength, tooManyDots, wrong, tooMuch, missing}
-use Rattle.session_records.specs.Found.{found}
+use Rattle.session_records.specs.RecordAt.{recordAt}
 use Rattle.session_records.specs.declared.record.Context.{Context}
 use Rattle.session_records.specs.declared.record.Record.the-variants.{End}
-use Rattle.session_records.specs.declared.record.Found.{Found}
-use Rattle.session_records.specs.declared.record.Found.the-variants.{Is, More}
+use Rattle.session_records.specs.declared.record.RecordAt.{RecordAt}
+use Rattle.session_records.specs.declared.record.RecordAt.the-variants.{Is, More}
 use Rattle.session_records.proofs.Tests.{both}
 use Rattle.session_records.proofs.ByTag.{each-tag}
 use Rattle.session_records.proofs.Whole.{whole-there, tag-known, least-there}
@@ -143,9 +143,9 @@ module _ (bytes rest : List ℕ) where
           (λ is. rw (number-kept 3 2 (least 6 is)))
           (tagOf bytes) (tag-known bytes all right) refl
 
-module _ (number table : ℕ) (bytes rest : List ℕ) (last : Bool) (answer : Found) (sure : answer ≡ More → ⊥) where
+module _ (number table : ℕ) (bytes rest : List ℕ) (last : Bool) (answer : RecordAt) (sure : answer ≡ More → ⊥) where
   -- by the way in which the bytes are judged
-  behind-by : Judged (judgedAt number table false) bytes → found (judgedAt number table false) bytes ≡ answer → found (judgedAt number table last) (bytes ++ rest) ≡ answer
+  behind-by : Judged (judgedAt number table false) bytes → recordAt (judgedAt number table false) bytes ≡ answer → recordAt (judgedAt number table last) (bytes ++ rest) ≡ answer
   behind-by (faulty w) e =
       found-wrong (judgedAt number table last) (bytes ++ rest) (wrong-stays bytes rest w) ∙ sym (found-wrong (judgedAt number table false) bytes w) ∙ e
   behind-by (waiting w s l) e = absurd (sure (sym e ∙ found-more (judgedAt number table false) bytes w s l))
@@ -160,5 +160,5 @@ module _ (number table : ℕ) (bytes rest : List ℕ) (last : Bool) (answer : Fo
       ∙ sym (found-is (judgedAt number table false) bytes w s m) ∙ e
 
   -- an answer that waits for nothing is the answer, whatever follows and wherever the file ends
-  pub found-behind : found (judgedAt number table false) bytes ≡ answer → found (judgedAt number table last) (bytes ++ rest) ≡ answer
+  pub found-behind : recordAt (judgedAt number table false) bytes ≡ answer → recordAt (judgedAt number table last) (bytes ++ rest) ≡ answer
   found-behind = behind-by (judged (judgedAt number table false) bytes)

@@ -10,11 +10,11 @@ use lib.ListN.{length, getD}
 use Rattle.session_records.specs.Tags.{lengthsOf}
 use Rattle.session_records.specs.Parts.{there, tagOf, lengthOf, inBody, recordsOf}
 use Rattle.session_records.specs.Faults.{tooManyRecords, tooLongTable, tooMuch}
-use Rattle.session_records.specs.Found.{found}
+use Rattle.session_records.specs.RecordAt.{recordAt}
 use Rattle.session_records.specs.declared.record.Context.{Context}
 use Rattle.session_records.specs.declared.record.Record.{Record}
 use Rattle.session_records.specs.declared.record.Record.the-variants.{End, Write, Dots, Table, Normal, Overlay, Line}
-use Rattle.session_records.specs.declared.record.Found.the-variants.{Is}
+use Rattle.session_records.specs.declared.record.RecordAt.the-variants.{Is}
 use Rattle.session_records.proofs.Tests.{neither, not-both}
 use Rattle.session_records.proofs.ByTag.{each-tag}
 use Rattle.session_records.proofs.Whole.{tag-known, most-there, dots-few}
@@ -34,7 +34,7 @@ tagFor (Line y) = 6
 tag-back : (bytes : List ℕ) (tag : ℕ) → tag < 7 → tagFor (getD (recordsOf bytes) tag End) ≡ tag
 tag-back bytes = each-tag (λ (tag : ℕ). tagFor (getD (recordsOf bytes) tag End) ≡ tag) refl refl refl refl refl refl refl
 
-module _ (context : Context) (bytes : List ℕ) {is : Record} {count : ℕ} (e : found context bytes ≡ Is is count) where
+module _ (context : Context) (bytes : List ℕ) {is : Record} {count : ℕ} (e : recordAt context bytes ≡ Is is count) where
   -- all that is known of it
   accepted : Accepted context bytes is count
   accepted = found-accepted context bytes e
@@ -61,15 +61,15 @@ module _ (context : Context) (bytes : List ℕ) {is : Record} {count : ℕ} (e :
 
 module _ (context : Context) (bytes : List ℕ) {count : ℕ} where
   -- a normal row has at most 8,192 bytes
-  pub normal-fits : found context bytes ≡ Is Normal count → count ≤ 8192
+  pub normal-fits : recordAt context bytes ≡ Is Normal count → count ≤ 8192
   normal-fits e = body-fits context bytes e
 
   -- an overlay row has at most 2,048 bytes
-  pub overlay-fits : found context bytes ≡ Is Overlay count → count ≤ 2048
+  pub overlay-fits : recordAt context bytes ≡ Is Overlay count → count ≤ 2048
   overlay-fits e = body-fits context bytes e
 
   -- with the table bytes of a record, the table has at most 65,536
-  pub table-fits : found context bytes ≡ Is Table count → context .table + count ≤ 65536
+  pub table-fits : recordAt context bytes ≡ Is Table count → context .table + count ≤ 65536
   table-fits e =
       let fits = found-accepted context bytes e in
       let is : there bytes 3 && eqb (tagOf bytes) 3 ≡ true = rw (le-leb 3 (length bytes) (omega arith), eq-eqb (tagOf bytes) 3 (tag-is context bytes e)) in
@@ -78,7 +78,7 @@ module _ (context : Context) (bytes : List ℕ) {count : ℕ} where
       (not-both (there bytes 3 && eqb (tagOf bytes) 3) (ltb 65536 (context .table + lengthOf bytes)) (faults context bytes e .1) is))
 
   -- dots are at most 16,777,216
-  pub dots-fit : {dots : ℕ} → found context bytes ≡ Is (Dots dots) count → dots ≤ 16777216
+  pub dots-fit : {dots : ℕ} → recordAt context bytes ≡ Is (Dots dots) count → dots ≤ 16777216
   dots-fit {dots} e =
       let fits = found-accepted context bytes e in
       let is = tag-is context bytes e in

@@ -1,4 +1,4 @@
 pub mod Tags
 pub mod Parts
 pub mod Faults
-pub mod Found
+pub mod RecordAt

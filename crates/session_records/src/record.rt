@@ -3,7 +3,7 @@ ghost use mathlib.Core.Path.{_≡_};
 ghost use mathlib.Core.Bool.{true, false};
 ghost use lib.ListN.{drop};
 ghost use Rattle.session_records.specs.Faults.{wrong, missing};
-ghost use Rattle.session_records.specs.Found.{found};
+ghost use Rattle.session_records.specs.RecordAt.{recordAt};
 use crate::faults::missing;
 use crate::faults::too_much;
 use crate::faults::wrong;
@@ -30,48 +30,48 @@ pub struct Context {
 }
 
 // What stands at a place: a record whose body has so many bytes, the beginning of one, or a fault.
-pub enum Found {
+pub enum RecordAt {
     Is { record: Record, length: usize },
     More,
     Refused(Refusal),
 }
 
 // What stands at the front of bytes that end before their record does.
-fn beginning(bytes: &[u8], context: Context) -> Found
+fn beginning(bytes: &[u8], context: Context) -> RecordAt
     requires { ⌜ (wrong (now bytes) ≡ false) × (missing (now bytes) ≡ true) ⌝ }
-    ensures { λ r. ⌜ r ≡ found context (now (bytes .entry)) ⌝ }
+    ensures { λ r. ⌜ r ≡ recordAt context (now (bytes .entry)) ⌝ }
 {
     if !context.last {
-        return Found::More;
+        return RecordAt::More;
     }
     if too_much(bytes, context) {
-        return Found::Refused(Refusal::TooMuch(context.number));
+        return RecordAt::Refused(Refusal::TooMuch(context.number));
     }
-    Found::Refused(Refusal::FileEnds(context.number))
+    RecordAt::Refused(Refusal::FileEnds(context.number))
 }
 
 // What stands at the front of the bytes.
-fn front(bytes: &[u8], context: Context) -> Found
-    ensures { λ r. ⌜ r ≡ found context (now (bytes .entry)) ⌝ }
+fn front(bytes: &[u8], context: Context) -> RecordAt
+    ensures { λ r. ⌜ r ≡ recordAt context (now (bytes .entry)) ⌝ }
 {
     if wrong(bytes) {
-        return Found::Refused(Refusal::WrongRecord(context.number));
+        return RecordAt::Refused(Refusal::WrongRecord(context.number));
     }
     if missing(bytes) {
         return beginning(bytes, context);
     }
     if too_much(bytes, context) {
-        return Found::Refused(Refusal::TooMuch(context.number));
+        return RecordAt::Refused(Refusal::TooMuch(context.number));
     }
-    Found::Is {
+    RecordAt::Is {
         record: record_of(bytes),
         length: length_of(bytes),
     }
 }
 
 // What stands at a place of the bytes; past their end no bytes are there.
-pub fn record_at(bytes: &[u8], place: usize, context: Context) -> Found
-    ensures { λ r. ⌜ r ≡ found context (drop place (now (bytes .entry))) ⌝ }
+pub fn record_at(bytes: &[u8], place: usize, context: Context) -> RecordAt
+    ensures { λ r. ⌜ r ≡ recordAt context (drop place (now (bytes .entry))) ⌝ }
 {
     if place < bytes.len() {
         return front(&bytes[place..], context);

@@ -1,9 +1,9 @@
 // What a step of a session is lent: how much is held, and how long each room is.
 ghost use mathlib.Core.Path.{_≡_};
 ghost use Rattle.rules.specs.Checked.{verdict};
-ghost use Rattle.refusals.specs.Refusal.{fitTold};
+ghost use Rattle.refusals.specs.Refusal.{answerOutcome};
 ghost use Rattle.session_rooms.specs.Rooms.{tooMuchHeld, roomFaults, lentFaults};
-use refusals::Fit;
+use refusals::Answer;
 use refusals::Refusal;
 
 // How many bytes of table and rows are there.
@@ -27,40 +27,40 @@ fn too_much_held(table: usize, normal: usize, overlay: usize) -> bool
 }
 
 // The lengths of the rooms, at the lowest place: 5.
-fn rooms_fit(store: usize, table: usize, normal: usize, overlay: usize, output: usize) -> Fit
-    ensures { λ r. ⌜ fitTold r ≡ verdict (roomFaults store table normal overlay output) ⌝ }
+fn rooms_check(store: usize, table: usize, normal: usize, overlay: usize, output: usize) -> Answer
+    ensures { λ r. ⌜ answerOutcome r ≡ verdict (roomFaults store table normal overlay output) ⌝ }
 {
     if store != 4963 {
-        return Fit::Refused(Refusal::StoreLength);
+        return Answer::Refused(Refusal::StoreLength);
     }
     if table != 65536 {
-        return Fit::Refused(Refusal::TableLength);
+        return Answer::Refused(Refusal::TableLength);
     }
     if normal != 8192 {
-        return Fit::Refused(Refusal::NormalLength);
+        return Answer::Refused(Refusal::NormalLength);
     }
     if overlay != 2048 {
-        return Fit::Refused(Refusal::OverlayLength);
+        return Answer::Refused(Refusal::OverlayLength);
     }
     if output != 2048 {
-        return Fit::Refused(Refusal::OutputLength);
+        return Answer::Refused(Refusal::OutputLength);
     }
-    Fit::Yes
+    Answer::Done
 }
 
 // Whether a step may go on with what it is lent: 11, and then 5.
-pub fn fit(
+pub fn step_check(
     held: Counts,
     store: usize,
     table: usize,
     normal: usize,
     overlay: usize,
     output: usize,
-) -> Fit
-    ensures { λ r. ⌜ fitTold r ≡ verdict (lentFaults held store table normal overlay output) ⌝ }
+) -> Answer
+    ensures { λ r. ⌜ answerOutcome r ≡ verdict (lentFaults held store table normal overlay output) ⌝ }
 {
     if too_much_held(held.table, held.normal, held.overlay) {
-        return Fit::Refused(Refusal::BadState);
+        return Answer::Refused(Refusal::BadState);
     }
-    rooms_fit(store, table, normal, overlay, output)
+    rooms_check(store, table, normal, overlay, output)
 }

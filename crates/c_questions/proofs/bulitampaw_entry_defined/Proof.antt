@@ -2,7 +2,7 @@
 use Prim.Native.Nat.{ℕ}
 use mathlib.Core.Path.{sym, ap, _∙_}
 use borrow.Author.Needs.{needs}
-use Rattle.c_numbers.specs.Numbers.{number}
+use Rattle.c_numbers.specs.Numbers.{yesNo}
 use Rattle.line_colour.specs.Entry.{isDefined}
 use Rattle.line_colour.specs.declared.entry.Decoded.{Decoded}
 use Rattle.line_colour.proofs.Kept.{decoded-kept}
@@ -12,7 +12,7 @@ use Rattle.c_questions.proofs.bulitampaw_entry_defined.Tie as tie
 
 -- what C is answered of what the decoder says
 abbrev answer : Decoded → ℕ
-answer decoded = number (isDefined decoded)
+answer decoded = yesNo (isDefined decoded)
 
 decode-requires : tie.Need-decode-requires
 decode-requires c κs = search needs

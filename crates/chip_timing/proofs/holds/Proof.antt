@@ -1,6 +1,6 @@
 -- `chip_timing::holds` meets its contract: the window that its two fields say. Assumes nothing.
 use borrow.Author.Needs.{needs}
-use Rattle.chip_timing.specs.Signals.{holds}
+use Rattle.chip_timing.specs.Signals.{windowHolds}
 use Rattle.chip_timing.proofs.holds.Statement.{statement}
 use Rattle.chip_timing.proofs.holds.Tie as tie
 
@@ -14,7 +14,7 @@ in-window-requires : tie.Need-in-window-requires
 in-window-requires c κs = search needs
 
 returns : tie.Need-returns
-unfolding holds
+unfolding windowHolds
 returns c = cc
 
 pub holds-spec : {M : Type 1} → statement M

@@ -38,16 +38,16 @@ use denote.Exit.{yes}
 use denote.Triple.Clauses.{ensured, lasts}
 use lib.Dec.{T as Holds}
 use lib.ListN.{length, drop as dropped}
-use Rattle.session_records.specs.Found.{found}
+use Rattle.session_records.specs.RecordAt.{recordAt}
 use Rattle.session_reader.specs.declared.Reader.{Reader}
 use Rattle.session_records.specs.declared.record.Context.{Context}
-use Rattle.session_records.specs.declared.record.Found.{Found}
+use Rattle.session_records.specs.declared.record.RecordAt.{RecordAt}
 use Rattle.session_reader.proofs.Reader as T
 use Rattle.session_reader.proofs.Reader.Laws as T′
 use Rattle.session_records.proofs.record.Context as N
 use Rattle.session_records.proofs.record.Context.Laws as N′
-use Rattle.session_records.proofs.record.Found as S
-use Rattle.session_records.proofs.record.Found.Laws as S′
+use Rattle.session_records.proofs.record.RecordAt as S
+use Rattle.session_records.proofs.record.RecordAt.Laws as S′
 use Rattle.session_reader.proofs.reader_at as reader-at
 use Rattle.session_reader.proofs.reader_at.Symbol as reader-at-def
 use Rattle.session_reader.proofs.reader_at.Symbol.{name as #reader-at}
@@ -91,13 +91,13 @@ abbrev Made : RefT (List ℕ) → ℕ → Reader → Type 0
 Made bytes place r = (r .bytes ≡ bytes) × (r .place ≡ place)
 
 -- what is found with a reader
-abbrev foundBy : Context → Reader → Found
-foundBy context r = found context (dropped (r .place) (now (r .bytes)))
+abbrev foundBy : Context → Reader → RecordAt
+foundBy context r = recordAt context (dropped (r .place) (now (r .bytes)))
 
 -- a reader that was made of bytes and a place finds what stands there
-same : (context : Context) (bytes : RefT (List ℕ)) (place : ℕ) (r : Reader) → Made bytes place r → foundBy context r ≡ found context (dropped place (now bytes))
+same : (context : Context) (bytes : RefT (List ℕ)) (place : ℕ) (r : Reader) → Made bytes place r → foundBy context r ≡ recordAt context (dropped place (now bytes))
 same context bytes place r e =
-    ap (λ (x : RefT (List ℕ)). found context (dropped (r .place) (now x))) (e .0) ∙ ap (λ (n : ℕ). found context (dropped n (now bytes))) (e .1)
+    ap (λ (x : RefT (List ℕ)). recordAt context (dropped (r .place) (now x))) (e .0) ∙ ap (λ (n : ℕ). recordAt context (dropped n (now bytes))) (e .1)
 
 module _ {M : Type 1} (𝓤 : URA M) (H : Heap 𝓤) (A : Atoms 𝓤) (W : Given 𝓤 H A) (mem : Memory → SProp 𝓤) (run : Routine → Fun 𝓤) (κ : Lft) (q : Share) (bytes : RefT (List ℕ)) (place : ℕ) (ok : place < 2 ^ 64) (context : Context) where
   -- the machine values of the slice and of the context
@@ -147,10 +147,10 @@ module _ {M : Type 1} (𝓤 : URA M) (H : Heap 𝓤) (A : Atoms 𝓤) (W : Given
   goes-next r u =
       qed W (‵ (B (κ, tt) .own r (u ∷ [])) ∷ (‵ (flft κ q) ⊛ ‵ ftrue) ∷ ‵ Own ∷ []) ∵ move ! (0 ∷ 2 ∷ []) $ fjoin ! $ move ! (1 ∷ 0 ∷ []) $ join ! $ frame ! $ done !
 
-  next-said : (r : Reader) (t : Found) → ent 𝓤 (ensured 𝓤 H A next.ended (next.clauses 𝓤 H A mem run) (κ, tt) (r, (context, tt)) tt t) (fact 𝓤 (t ≡ foundBy context r))
+  next-said : (r : Reader) (t : RecordAt) → ent 𝓤 (ensured 𝓤 H A next.ended (next.clauses 𝓤 H A mem run) (κ, tt) (r, (context, tt)) tt t) (fact 𝓤 (t ≡ foundBy context r))
   next-said r t = exE 𝓤 _ (λ ws. snd∗ 𝓤 (sem 𝓤 H A (lasts next.ended (κ, tt) (r, (context, tt)) ws)) (fact 𝓤 (t ≡ foundBy context r)))
 
-  exits : (t : Found) (u : Val) → t ≡ found context (dropped place (now bytes)) → ent 𝓤 (⋆ 𝓤 H A (‵ (S.the-row .own t (u ∷ [])) ∷ (‵ (flft κ q) ⊛ ‵ ftrue) ∷ [])) (Post u)
+  exits : (t : RecordAt) (u : Val) → t ≡ recordAt context (dropped place (now bytes)) → ent 𝓤 (⋆ 𝓤 H A (‵ (S.the-row .own t (u ∷ [])) ∷ (‵ (flft κ q) ⊛ ‵ ftrue) ∷ [])) (Post u)
   exits t u e =
       qed W (‵ (S.the-row .own t (u ∷ [])) ∷ (‵ (flft κ q) ⊛ ‵ ftrue) ∷ []) ∵
       suffices ! _ (ends-at 𝓤 H A read.ended stayed (read.clauses 𝓤 H A mem run) W (((κ, tt), (q, tt), tt, (bytes, (place, (context, tt))), at), tt) u t (tt, (tt, (tt, tt))) (tt, (tt, (tt, tt)))) $ says ! e $
@@ -171,7 +171,7 @@ module _ {M : Type 1} (𝓤 : URA M) (H : Heap 𝓤) (A : Atoms 𝓤) (W : Given
         land ! (from ! (stop !)) (init ! 3 refl (LL.lawful (T.the-type αᵉ) (T′.the-laws αᵉ) 𝓤 H A W .typed r _ is .0)) $
         use3 W (raw (Next 𝓤 H A mem run .pre (to-next r u))) (goes-next r u) $
         calls-at ! fm (Next 𝓤 H A mem run) known-next (to-next r u) (and-then ! (load ! (from ! (stop !)) (look ! 1 refl)) (and-then ! (load ! (from ! (stop !)) (look ! 3 refl)) (no-more !))) (λ u′.
-        use1 W (later (some (λ (t : Found). ((‵ (flft κ q) ⊛ ‵ ftrue) ⊛ ‵ (S.the-row .own t (u′ ∷ []))) ⊛ raw (ensured 𝓤 H A next.ended (next.clauses 𝓤 H A mem run) (κ, tt) (r, (context, tt)) tt t)))) (id⊢ 𝓤 _) $ await ! tt $ pick ! (λ t.
+        use1 W (later (some (λ (t : RecordAt). ((‵ (flft κ q) ⊛ ‵ ftrue) ⊛ ‵ (S.the-row .own t (u′ ∷ []))) ⊛ raw (ensured 𝓤 H A next.ended (next.clauses 𝓤 H A mem run) (κ, tt) (r, (context, tt)) tt t)))) (id⊢ 𝓤 _) $ await ! tt $ pick ! (λ t.
         split ! $ move ! (1 ∷ []) $ use1 W (raw (fact 𝓤 (t ≡ foundBy context r))) (next-said r t) $ heard ! (t ≡ foundBy context r) (λ e′. split ! $ move ! (1 ∷ []) $
         -- [the result; the token; _4; …; _3; …; _2; …; _1; …; room for _0; …]
         peeks ! S.the-row (Is S.the-row) (shows 𝓤 H A S.the-row) t (u′ ∷ []) (λ is′.

@@ -13,8 +13,8 @@ use Rattle.c_chip.proofs.calls.bulitampaw_line.Tie as tie
 draw-requires : tie.Need-draw-requires
 draw-requires c κs = search needs
 
-of-line-requires : tie.Need-of-line-requires
-of-line-requires c κs = search needs
+of-answer-requires : tie.Need-of-answer-requires
+of-answer-requires c κs = search needs
 
 same-length : tie.Need-same-length
 same-length c = search needs
@@ -22,8 +22,8 @@ same-length c = search needs
 returns : tie.Need-returns
 unfolding drawnInNumbers
 returns c =
-    rw (c .of-line .ensures)
+    rw (c .of-answer .ensures)
     (ap (λ (all : (State × List ℕ) × Outcome Numbered (Unit {0})). (lineAnswer (all .0 .0) (all .1), all .0 .1)) (c .before .before .before .before .draw .ensures))
 
 pub bulitampaw-line-spec : {M : Type 1} → statement M
-bulitampaw-line-spec = tie.close (tie.spec draw-requires of-line-requires same-length returns)
+bulitampaw-line-spec = tie.close (tie.spec draw-requires of-answer-requires same-length returns)

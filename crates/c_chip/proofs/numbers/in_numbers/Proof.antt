@@ -11,23 +11,23 @@ enum-told c = search needs
 enum-known-report : tie.Need-enum-known-report
 enum-known-report c = search needs
 
-number-requires : tie.Need-number-requires
-number-requires c κs = search needs
+yes-no-requires : tie.Need-yes-no-requires
+yes-no-requires c κs = search needs
 
-number-requires-2 : tie.Need-number-requires-2
-number-requires-2 c κs = search needs
+yes-no-requires-2 : tie.Need-yes-no-requires-2
+yes-no-requires-2 c κs = search needs
 
-number-requires-3 : tie.Need-number-requires-3
-number-requires-3 c κs = search needs
+yes-no-requires-3 : tie.Need-yes-no-requires-3
+yes-no-requires-3 c κs = search needs
 
 returns : tie.Need-returns
 returns c = ap inNumbers (sym (c .enum-told .given .1))
 
 returns-2 : tie.Need-returns-2
 returns-2 c =
-    let third = c .number3 in
-    let second = c .before .number2 in
-    let first = c .before .before .number in
+    let third = c .yes-no3 in
+    let second = c .before .yes-no2 in
+    let first = c .before .before .yes-no in
     rw (first .ensures, second .ensures, third .ensures)
     (ap inNumbers (sym (c .before .before .before .before .report .given .1)))
 
@@ -37,8 +37,8 @@ in-numbers-spec =
     (tie.spec
     enum-told
     enum-known-report
-    number-requires
-    number-requires-2
-    number-requires-3
+    yes-no-requires
+    yes-no-requires-2
+    yes-no-requires-3
     returns
     returns-2)

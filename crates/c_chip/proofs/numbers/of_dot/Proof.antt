@@ -2,8 +2,8 @@
 use mathlib.Core.Path.{ap, sym, _∙_}
 use borrow.Author.Needs.{needs}
 use Rattle.c_numbers.specs.Numbers.{refusalOf}
-use Rattle.chip.specs.Dot.{told}
-use Rattle.chip.specs.declared.dot.Answer.{Answer}
+use Rattle.chip.specs.Dot.{dotOutcome}
+use Rattle.chip.specs.declared.dot.DotAnswer.{DotAnswer}
 use Rattle.c_chip.proofs.numbers.of_dot.Statement.{statement}
 use Rattle.c_chip.proofs.numbers.of_dot.Tie as tie
 
@@ -24,7 +24,7 @@ returns c = search needs
 
 returns-2 : tie.Need-returns-2
 returns-2 c =
-    c .refused-by .ensures ∙ ap (λ (answer : Answer). refusalOf (told answer)) (sym (c .before .before .answer .given .1))
+    c .refused-by .ensures ∙ ap (λ (answer : DotAnswer). refusalOf (dotOutcome answer)) (sym (c .before .before .answer .given .1))
 
 pub of-dot-spec : {M : Type 1} → statement M
 of-dot-spec = tie.close (tie.spec enum-told nothing-requires enum-known-answer refused-by-requires returns returns-2)

@@ -1,15 +1,15 @@
 -- `c_session::steps::came_to` meets its contract: the answer, case by case. Assumes nothing.
 use mathlib.Core.Path.{ap, sym, _≡_}
 use borrow.Author.Needs.{needs}
-use Rattle.session_answers.specs.Came.{told}
-use Rattle.session_answers.specs.declared.Answer.{Answer}
-use Rattle.c_session.specs.Steps.{cameTo}
+use Rattle.session_answers.specs.Status.{stepOutcome}
+use Rattle.session_answers.specs.declared.StepAnswer.{StepAnswer}
+use Rattle.c_session.specs.Steps.{statusInNumbers}
 use Rattle.c_session.proofs.steps.came_to.Statement.{statement}
 use Rattle.c_session.proofs.steps.came_to.Tie as tie
 
 -- equal answers come to the same
-same : {answer other : Answer} → answer ≡ other → cameTo (told answer) ≡ cameTo (told other)
-same e = ap (λ (one : Answer). cameTo (told one)) e
+same : {answer other : StepAnswer} → answer ≡ other → statusInNumbers (stepOutcome answer) ≡ statusInNumbers (stepOutcome other)
+same e = ap (λ (one : StepAnswer). statusInNumbers (stepOutcome one)) e
 
 enum-known-answer : tie.Need-enum-known-answer
 enum-known-answer c = search needs

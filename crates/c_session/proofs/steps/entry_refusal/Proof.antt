@@ -1,8 +1,8 @@
 -- `c_session::steps::entry_refusal` meets its contract: the refusal of an entry that is one. Assumes nothing.
 use mathlib.Core.Path.{ap, sym, _∙_}
 use borrow.Author.Needs.{needs}
-use Rattle.session_listing.specs.Text.{said}
-use Rattle.session_listing.specs.declared.entry.Entry.{Entry}
+use Rattle.session_listing.specs.Text.{entrySays}
+use Rattle.session_listing.specs.declared.entry.ListingEntry.{ListingEntry}
 use Rattle.c_session.specs.Steps.{entryRefusal}
 use Rattle.c_session.proofs.steps.entry_refusal.Statement.{statement}
 use Rattle.c_session.proofs.steps.entry_refusal.Tie as tie
@@ -42,7 +42,7 @@ returns-3 c = search needs
 
 returns-4 : tie.Need-returns-4
 returns-4 c =
-    c .refused-by .ensures ∙ ap (λ (entry : Entry). entryRefusal (said entry)) (sym (c .before .before .entry .given .1))
+    c .refused-by .ensures ∙ ap (λ (entry : ListingEntry). entryRefusal (entrySays entry)) (sym (c .before .before .entry .given .1))
 
 pub entry-refusal-spec : {M : Type 1} → statement M
 entry-refusal-spec =

@@ -2,8 +2,8 @@
 use mathlib.Core.Path.{ap, sym, _∙_}
 use borrow.Author.Needs.{needs}
 use denote.Ref.{now}
-use Rattle.session_answers.specs.Came.{told}
-use Rattle.session_answers.specs.declared.Answer.{Answer}
+use Rattle.session_answers.specs.Status.{stepOutcome}
+use Rattle.session_answers.specs.declared.StepAnswer.{StepAnswer}
 use Rattle.c_session.specs.Inner.{putText}
 use Rattle.c_session.proofs.steps.put_text.Statement.{statement}
 use Rattle.c_session.proofs.steps.put_text.Tie as tie
@@ -36,7 +36,7 @@ returns : tie.Need-returns
 returns c =
     let given = c .before .before .before .before .before .before .before .before .before .args in
     c .before .before .put-entry .ensures
-    ∙ ap (λ (answer : Answer). putText (told answer) (now (given .output)) (now (given .text))) (sym (c .before .before .before .before .before .answer .given .1))
+    ∙ ap (λ (answer : StepAnswer). putText (stepOutcome answer) (now (given .output)) (now (given .text))) (sym (c .before .before .before .before .before .answer .given .1))
 
 same-length-2 : tie.Need-same-length-2
 same-length-2 c = search needs
@@ -45,22 +45,22 @@ returns-2 : tie.Need-returns-2
 returns-2 c =
     let given = c .before .before .before .before .before .before .before .before .before .args in
     c .before .before .put-entry2 .ensures
-    ∙ ap (λ (answer : Answer). putText (told answer) (now (given .output)) (now (given .text))) (sym (c .before .before .before .before .before .answer2 .given .1))
+    ∙ ap (λ (answer : StepAnswer). putText (stepOutcome answer) (now (given .output)) (now (given .text))) (sym (c .before .before .before .before .before .answer2 .given .1))
 
 returns-3 : tie.Need-returns-3
 returns-3 c =
     let given = c .before .before .before .before .args in
-    ap (λ (answer : Answer). putText (told answer) (now (given .output)) (now (given .text))) (sym (c .enum-told .given .1))
+    ap (λ (answer : StepAnswer). putText (stepOutcome answer) (now (given .output)) (now (given .text))) (sym (c .enum-told .given .1))
 
 returns-4 : tie.Need-returns-4
 returns-4 c =
     let given = c .before .before .before .before .args in
-    ap (λ (answer : Answer). putText (told answer) (now (given .output)) (now (given .text))) (sym (c .enum-told2 .given .1))
+    ap (λ (answer : StepAnswer). putText (stepOutcome answer) (now (given .output)) (now (given .text))) (sym (c .enum-told2 .given .1))
 
 returns-5 : tie.Need-returns-5
 returns-5 c =
     let given = c .before .before .before .before .args in
-    ap (λ (answer : Answer). putText (told answer) (now (given .output)) (now (given .text))) (sym (c .enum-told3 .given .1))
+    ap (λ (answer : StepAnswer). putText (stepOutcome answer) (now (given .output)) (now (given .text))) (sym (c .enum-told3 .given .1))
 
 pub put-text-spec : {M : Type 1} → statement M
 put-text-spec =

@@ -3,7 +3,7 @@ use mathlib.Core.Path.{_≡_, refl, sym, _∙_}
 use mathlib.Core.Bool.{true, false}
 use borrow.Author.Needs.{needs}
 use borrow.Author.Tests.{not-true, not-false}
-use Rattle.refusals.specs.declared.Fit.the-variants.{Yes}
+use Rattle.refusals.specs.declared.Answer.the-variants.{Done}
 use Rattle.chip_registers.specs.Named.{named}
 use Rattle.chip_registers.specs.Kept.{fits}
 use Rattle.chip_registers.specs.Access.{readOnly}
@@ -12,7 +12,7 @@ use Rattle.chip.proofs.write.judged.Statement.{statement}
 use Rattle.chip.proofs.write.judged.Tie as tie
 
 -- past the first test the call may go on
-going : (c : tie.After-enum-told) → c .before .before .args .fit ≡ Yes
+going : (c : tie.After-enum-told) → c .before .before .args .allowed ≡ Done
 going c = c .enum-told .given .1
 
 -- past the second the address names a register
@@ -28,11 +28,11 @@ clean : (c : tie.Else2)
     → fits (c .before .before .before .before .before .named .given .0 .0) (c .before .before .before .before .before .before .before .before .before .before .before .args .value) ≡ true
 clean c = sym (c .before .fits2 .ensures) ∙ not-false (c .before .fits2 .result) (c .if2 .left)
 
-enum-known-fit : tie.Need-enum-known-fit
-enum-known-fit c = search needs
+enum-known-allowed : tie.Need-enum-known-allowed
+enum-known-allowed c = search needs
 
 returns : tie.Need-returns
-returns c = rw (c .before .fit .given .1) refl
+returns c = rw (c .before .allowed .given .1) refl
 
 enum-told : tie.Need-enum-told
 enum-told c = search needs
@@ -109,7 +109,7 @@ pub judged-spec : {M : Type 1} → statement M
 judged-spec =
     tie.close
     (tie.spec
-    enum-known-fit
+    enum-known-allowed
     returns
     enum-told
     place-requires

@@ -4,15 +4,15 @@ use borrow.Author.Needs.{needs}
 use denote.Ref.{now}
 use Rattle.rules.specs.Checked.{verdict}
 use Rattle.rules.specs.Rule.{ok}
-use Rattle.refusals.specs.Refusal.{fitTold}
-use Rattle.refusals.specs.declared.Fit.{Fit}
+use Rattle.refusals.specs.Refusal.{answerOutcome}
+use Rattle.refusals.specs.declared.Answer.{Answer}
 use Rattle.line_windows.specs.declared.frame.LineTable.the-variants.{Starts}
 use Rattle.line_windows.specs.declared.frame.LineTable.{LineTable}
 use Rattle.line_setup.specs.Faults.{lineFaults}
 use Rattle.line_setup.proofs.Fitted.{fitted}
-use Rattle.line_setup.proofs.setup.Setup.fit.Reads as fit-reads
+use Rattle.line_setup.proofs.setup.Setup.line_check.Reads as line-check-reads
 use Rattle.line.specs.Cells.{lentOf}
-use Rattle.line.specs.Inner.{StartTold, EntriesTold, CheckedTold}
+use Rattle.line.specs.Inner.{StartAnswer, EntriesAnswer, CheckedAnswer}
 use Rattle.line.proofs.Whole.{line-unfit, line-no-table, line-no-entry}
 use Rattle.line.proofs.draw.checked.Reads as reads
 use Rattle.line.proofs.draw.start.Reads as start-reads
@@ -23,31 +23,31 @@ use Rattle.line.proofs.draw.checked.Tie as tie
 
 -- the first checks passed
 passes :
-    (c : lts.After-enum-told (fit-reads.Asked, fit-reads.Learnt, start-reads.Asked, start-reads.Learnt, check-runs-reads.Asked, check-runs-reads.Learnt) reads.Pre reads.Post) →
+    (c : lts.After-enum-told (line-check-reads.Asked, line-check-reads.Learnt, start-reads.Asked, start-reads.Learnt, check-runs-reads.Asked, check-runs-reads.Learnt) reads.Pre reads.Post) →
     verdict (lineFaults (c .before .before .before .before .before .args .setup)) ≡ ok tt
-passes c = sym (c .before .before .fit .ensures) ∙ ap fitTold (c .enum-told .given .1)
+passes c = sym (c .before .before .line-check .ensures) ∙ ap answerOutcome (c .enum-told .given .1)
 
 -- where the line table starts
 starts :
-    (c : lts.After-known-told2 (fit-reads.Asked, fit-reads.Learnt, start-reads.Asked, start-reads.Learnt, check-runs-reads.Asked, check-runs-reads.Learnt) reads.Pre reads.Post) →
+    (c : lts.After-known-told2 (line-check-reads.Asked, line-check-reads.Learnt, start-reads.Asked, start-reads.Learnt, check-runs-reads.Asked, check-runs-reads.Learnt) reads.Pre reads.Post) →
     let given = c .before .before .before .before .before .before .before .before .before .before .args in
-    StartTold (given .setup .controls) (now (given .table)) (given .setup .y) (Starts (c .before .found .given .0 .0))
+    StartAnswer (given .setup .controls) (now (given .table)) (given .setup .y) (Starts (c .before .found .given .0 .0))
 starts c =
     let given = c .before .before .before .before .before .before .before .before .before .before .args in
-    subst (λ (answer : LineTable). StartTold (given .setup .controls) (now (given .table)) (given .setup .y) answer) (c .before .found .given .1)
+    subst (λ (answer : LineTable). StartAnswer (given .setup .controls) (now (given .table)) (given .setup .y) answer) (c .before .found .given .1)
     (c .before .before .before .start .ensures)
 
-fit-requires : tie.Need-fit-requires
-fit-requires c κs = search needs
+line-check-requires : tie.Need-line-check-requires
+line-check-requires c κs = search needs
 
-enum-known-fit : tie.Need-enum-known-fit
-enum-known-fit c = search needs
+enum-known-allowed : tie.Need-enum-known-allowed
+enum-known-allowed c = search needs
 
 returns : tie.Need-returns
 returns c =
     let start = c .before .before .before .before .before .before in
     let given = start .args in
-    λ normal overlay. line-unfit (given .setup) (lentOf (now (given .store)) (now (given .table)) normal overlay) (sym (c .before .before .before .fit .ensures) ∙ ap fitTold (c .before .fit2 .given .1))
+    λ normal overlay. line-unfit (given .setup) (lentOf (now (given .store)) (now (given .table)) normal overlay) (sym (c .before .before .before .line-check .ensures) ∙ ap answerOutcome (c .before .allowed .given .1))
 
 enum-told : tie.Need-enum-told
 enum-told c = search needs
@@ -66,10 +66,10 @@ returns-2 c =
     let past = c .before .before .before .before in
     let start = past .before .before .before .before .before in
     let given = start .args in
-    subst (λ (answer : LineTable). CheckedTold (given .setup) (now (given .store)) (now (given .table)) answer) (sym (c .enum-told2 .given .1))
+    subst (λ (answer : LineTable). CheckedAnswer (given .setup) (now (given .store)) (now (given .table)) answer) (sym (c .enum-told2 .given .1))
     (λ normal overlay. line-no-table (given .setup) (lentOf (now (given .store)) (now (given .table)) normal overlay) (passes past)
     (rw (sym (start .pre .1))
-    (subst (λ (answer : LineTable). StartTold (given .setup .controls) (now (given .table)) (given .setup .y) answer) (c .enum-told2 .given .1) (c .before .before .start .ensures) (now (given .store)) normal overlay)))
+    (subst (λ (answer : LineTable). StartAnswer (given .setup .controls) (now (given .table)) (given .setup .y) answer) (c .enum-told2 .given .1) (c .before .before .start .ensures) (now (given .store)) normal overlay)))
 
 check-runs-requires : tie.Need-check-runs-requires
 check-runs-requires c κs =
@@ -90,7 +90,7 @@ returns-3 c =
     record {
       fit = passes past;
       starts = starts found (now (given .store));
-      entries = subst (λ (answer : Fit). EntriesTold (given .setup .controls) (now (given .store)) (now (given .table)) (found .before .found .given .0 .0) answer) (c .enum-told3 .given .1) (c .before .before .check-runs .ensures);
+      entries = subst (λ (answer : Answer). EntriesAnswer (given .setup .controls) (now (given .store)) (now (given .table)) (found .before .found .given .0 .0) answer) (c .enum-told3 .given .1) (c .before .before .check-runs .ensures);
     }
 
 returns-4 : tie.Need-returns-4
@@ -102,14 +102,14 @@ returns-4 c =
     λ normal overlay. line-no-entry (given .setup) (lentOf (now (given .store)) (now (given .table)) normal overlay) (passes past) {start = found .before .found .given .0 .0}
     (rw (sym (start .pre .1)) (starts found (now (given .store)) normal overlay))
     (rw (sym (start .pre .1))
-    (subst (λ (answer : Fit). EntriesTold (given .setup .controls) (now (given .store)) (now (given .table)) (found .before .found .given .0 .0) answer) (c .before .checked .given .1) (c .before .before .before .check-runs .ensures) normal overlay))
+    (subst (λ (answer : Answer). EntriesAnswer (given .setup .controls) (now (given .store)) (now (given .table)) (found .before .found .given .0 .0) answer) (c .before .checked .given .1) (c .before .before .before .check-runs .ensures) normal overlay))
 
 pub checked-spec : {M : Type 1} → statement M
 checked-spec =
     tie.close
     (tie.spec
-    fit-requires
-    enum-known-fit
+    line-check-requires
+    enum-known-allowed
     returns
     enum-told
     start-requires

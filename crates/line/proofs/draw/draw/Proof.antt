@@ -13,7 +13,7 @@ use Rattle.line_setup.proofs.Fitted.{fitted}
 use Rattle.line_setup.proofs.controls.Controls.of.Reads as of-reads
 use Rattle.line.specs.Cells.{lentOf}
 use Rattle.line.specs.Drawn.{setupOf}
-use Rattle.line.specs.Inner.{Sized, CheckedTold, Drawable}
+use Rattle.line.specs.Inner.{InRange, CheckedAnswer, Drawable}
 use Rattle.line.proofs.Result.{controls-sized, drawn-by}
 use Rattle.line.proofs.Whole.{line-drawn}
 use Rattle.line.proofs.draw.checked.Reads as checked-reads
@@ -57,7 +57,7 @@ drawable :
 drawable c =
     let made = c .before .before .before .before in
     let given = made .before .before .before .before .before .before .before .before .args in
-    subst (λ (answer : LineTable). CheckedTold (setup-at made) (now (given .store)) (now (given .table)) answer) (c .before .checked3 .given .1)
+    subst (λ (answer : LineTable). CheckedAnswer (setup-at made) (now (given .store)) (now (given .table)) answer) (c .before .checked3 .given .1)
     (c .before .before .before .checked .ensures)
 
 good-requires : tie.Need-good-requires
@@ -79,7 +79,7 @@ draw-runs-requires : tie.Need-draw-runs-requires
 draw-runs-requires c κs =
     let ready = drawable (c .before .before) in
     let right = fitted _ (ready .fit) in (
-      subst Sized (sym (c .before .before .before .before .before .before .of .ensures)) (controls-sized _),
+      subst InRange (sym (c .before .before .before .before .before .before .of .ensures)) (controls-sized _),
       record { store-long = right .store-right; normal-long = right .normal-right; overlay-long = right .overlay-right; output-long = right .output-right },
       ready .entries,
     )
@@ -90,7 +90,7 @@ returns c =
     let given = made .before .before .before .before .before .before .before .before .args in
     let lent = lentOf (now (given .store)) (now (given .table)) (now (given .normal)) (now (given .overlay)) in
     drawn-by (given .state) (given .y) lent (now (given .out)) (setup-at made) (setup-is made)
-    (subst (λ (answer : LineTable). CheckedTold (setup-at made) (now (given .store)) (now (given .table)) answer) (c .before .checked2 .given .1) (c .before .before .before .checked .ensures) (now (given .normal)) (now (given .overlay)))
+    (subst (λ (answer : LineTable). CheckedAnswer (setup-at made) (now (given .store)) (now (given .table)) answer) (c .before .checked2 .given .1) (c .before .before .before .checked .ensures) (now (given .normal)) (now (given .overlay)))
 
 same-length : tie.Need-same-length
 same-length c = search needs

@@ -4,7 +4,7 @@ use mathlib.Core.Path.{subst}
 use native.Mathlib.Omega.{arith}
 use borrow.Author.Needs.{needs}
 use denote.Ref.{now}
-use Rattle.line.specs.Inner.{RunTold}
+use Rattle.line.specs.Inner.{RunAnswer}
 use Rattle.line.specs.declared.runs.RunAt.{RunAt}
 use Rattle.line.specs.declared.runs.RunAt.the-variants.{Is}
 use Rattle.line.proofs.Pass.{Passing, pass-start, pass-refused, pass-over, pass-run}
@@ -25,11 +25,11 @@ run-told :
     (c : lts.After-known-told2 (run-at-reads.Asked, run-at-reads.Learnt) reads.Pre reads.Post Inv-loop μ-loop) →
     let loop = c .before .before .before .before .before .before in
     let given = loop .before .before .before .args in
-    RunTold (given .controls) (now (given .store)) (now (given .table)) (given .start) (loop .loop .x) (Is (c .before .run2 .given .0 .0))
+    RunAnswer (given .controls) (now (given .store)) (now (given .table)) (given .start) (loop .loop .x) (Is (c .before .run2 .given .0 .0))
 run-told c =
     let loop = c .before .before .before .before .before .before in
     let given = loop .before .before .before .args in
-    subst (λ (answer : RunAt). RunTold (given .controls) (now (given .store)) (now (given .table)) (given .start) (loop .loop .x) answer) (c .before .run2 .given .1)
+    subst (λ (answer : RunAt). RunAnswer (given .controls) (now (given .store)) (now (given .table)) (given .start) (loop .loop .x) answer) (c .before .run2 .given .1)
     (c .before .before .before .run-at .ensures)
 
 loop-holds : tie.Need-loop-holds Inv-loop μ-loop
@@ -47,7 +47,7 @@ returns c =
     let start = ran .before .before .before .before .before .before in
     let given = start .args in
     pass-refused (given .controls) (now (given .store)) (now (given .table)) (given .start) (ran .before .before .before .loop .inv) (c .before .run .given .0 .0) (ran .before .if1 .taken)
-    (subst (λ (answer : RunAt). RunTold (given .controls) (now (given .store)) (now (given .table)) (given .start) (ran .before .before .before .loop .x) answer) (c .before .run .given .1) (ran .run-at .ensures))
+    (subst (λ (answer : RunAt). RunAnswer (given .controls) (now (given .store)) (now (given .table)) (given .start) (ran .before .before .before .loop .x) answer) (c .before .run .given .1) (ran .run-at .ensures))
 
 enum-known-run-2 : tie.Need-enum-known-run-2 Inv-loop μ-loop
 enum-known-run-2 c = search needs

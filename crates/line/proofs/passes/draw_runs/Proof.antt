@@ -6,7 +6,7 @@ use borrow.Author.Needs.{needs}
 use denote.Ref.{now}
 use lib.ListN.{length}
 use Rattle.line_pixels.proofs.Screen.fill.Reads as fill-reads
-use Rattle.line.specs.Inner.{RunTold}
+use Rattle.line.specs.Inner.{RunAnswer}
 use Rattle.line.specs.declared.runs.RunAt.the-variants.{Is}
 use Rattle.line.specs.declared.runs.RunAt.{RunAt}
 use Rattle.line.proofs.Drawing.{Drawing, draw-start, draw-run, normal-reaches, overlay-reaches, output-reaches, none-refused}
@@ -28,11 +28,11 @@ run-told :
     (c : lts.After-known-told (screen-reads.Asked, screen-reads.Learnt, run-at-reads.Asked, run-at-reads.Learnt, fill-reads.Asked, fill-reads.Learnt) reads.Pre reads.Post Inv-loop μ-loop) →
     let loop = c .before .before .before .before .before .before in
     let given = loop .before .before .before .before .before .before .before .args in
-    RunTold (given .controls) (now (given .store)) (now (given .table)) (given .start) (loop .loop .x) (Is (c .before .run .given .0 .0))
+    RunAnswer (given .controls) (now (given .store)) (now (given .table)) (given .start) (loop .loop .x) (Is (c .before .run .given .0 .0))
 run-told c =
     let loop = c .before .before .before .before .before .before in
     let given = loop .before .before .before .before .before .before .before .args in
-    subst (λ (answer : RunAt). RunTold (given .controls) (now (given .store)) (now (given .table)) (given .start) (loop .loop .x) answer) (c .before .run .given .1)
+    subst (λ (answer : RunAt). RunAnswer (given .controls) (now (given .store)) (now (given .table)) (given .start) (loop .loop .x) answer) (c .before .run .given .1)
     (c .before .before .before .run-at .ensures)
 
 -- the output reaches beyond the run's first pixel
@@ -72,7 +72,7 @@ returns c =
     let given = start .args in
     absurd
     (none-refused (given .controls) (given .y) (now (given .store)) (now (given .table)) (now (given .normal)) (now (given .overlay)) (given .start) (c .enum-told .given .0 .0) (ran .before .before .before .loop .x) (start .pre .2) (ran .before .if1 .taken)
-    (subst (λ (answer : RunAt). RunTold (given .controls) (now (given .store)) (now (given .table)) (given .start) (ran .before .before .before .loop .x) answer) (c .enum-told .given .1) (ran .run-at .ensures)))
+    (subst (λ (answer : RunAt). RunAnswer (given .controls) (now (given .store)) (now (given .table)) (given .start) (ran .before .before .before .loop .x) answer) (c .enum-told .given .1) (ran .run-at .ensures)))
 
 cast-first : tie.Need-cast-first Inv-loop μ-loop
 cast-first c = search needs

@@ -5,9 +5,9 @@ use mathlib.Core.Bool.{true}
 use borrow.Author.Tests.{not-true, not-false}
 use borrow.Author.Needs.{needs}
 use Rattle.words.specs.Field.{field}
-use Rattle.line_formats.specs.Table.{numbered, partAt, hasDepth, hasBuffer, hasBank}
+use Rattle.line_formats.specs.Table.{formatOfNumber, partAt, hasDepth, hasBuffer, hasBank}
 use Rattle.line_formats.specs.declared.Format.{Format}
-use Rattle.line_formats.specs.declared.Numbered.the-variants.{Is}
+use Rattle.line_formats.specs.declared.NamedFormat.the-variants.{Is}
 use Rattle.line_colour.proofs.Decode.{spare-bits, no-format, no-depth, no-buffer, no-bank, is-defined}
 use Rattle.line_colour.proofs.entry.decode.Statement.{statement}
 use Rattle.line_colour.proofs.entry.decode.Tie as tie
@@ -17,8 +17,8 @@ clear : (c : tie.Else1) → field (c .before .before .before .before .before .ar
 clear c = sym (c .before .field4 .ensures .0) ∙ c .if1 .left
 
 -- what the entry's number names
-number-names : (c : tie.After-from-number) → c .from-number .result ≡ numbered (field (c .before .before .before .before .before .before .args .entry) 3 1)
-number-names c = c .from-number .ensures ∙ ap numbered (c .before .before .before .before .field2 .ensures .0)
+number-names : (c : tie.After-from-number) → c .from-number .result ≡ formatOfNumber (field (c .before .before .before .before .before .before .args .entry) 3 1)
+number-names c = c .from-number .ensures ∙ ap formatOfNumber (c .before .before .before .before .field2 .ensures .0)
 
 -- from where the format is known: the entry, the depth and the format
 abbrev entry-of : (c : tie.After-format) → ℕ
@@ -33,7 +33,7 @@ format-of c = c .format .given .0 .0
 clear-there : (c : tie.After-format) → field (entry-of c) 12 11 ≡ 0
 clear-there c = clear (c .before .before .before)
 
-named : (c : tie.After-format) → numbered (field (entry-of c) 3 1) ≡ Is (format-of c)
+named : (c : tie.After-format) → formatOfNumber (field (entry-of c) 3 1) ≡ Is (format-of c)
 named c = sym (number-names (c .before .before)) ∙ c .format .given .1
 
 -- what the three last tests say

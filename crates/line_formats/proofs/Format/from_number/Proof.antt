@@ -2,28 +2,28 @@
 use mathlib.Core.Path.{sym, ap}
 use native.Mathlib.Omega.{arith}
 use lib.ListN.{List·getD-eq-default}
-use Rattle.line_formats.specs.Table.{formats, numbered}
-use Rattle.line_formats.specs.declared.Numbered.the-variants.{Undefined}
+use Rattle.line_formats.specs.Table.{formats, formatOfNumber}
+use Rattle.line_formats.specs.declared.NamedFormat.the-variants.{Undefined}
 use Rattle.line_formats.proofs.Format.from_number.Statement.{statement}
 use Rattle.line_formats.proofs.Format.from_number.Tie as tie
 
 returns : tie.Need-returns
-returns c = sym (ap numbered (c .match .keys1))
+returns c = sym (ap formatOfNumber (c .match .keys1))
 
 returns-2 : tie.Need-returns-2
-returns-2 c = sym (ap numbered (c .match .keys2))
+returns-2 c = sym (ap formatOfNumber (c .match .keys2))
 
 returns-3 : tie.Need-returns-3
-returns-3 c = sym (ap numbered (c .match .keys3))
+returns-3 c = sym (ap formatOfNumber (c .match .keys3))
 
 returns-4 : tie.Need-returns-4
-returns-4 c = sym (ap numbered (c .match .keys4))
+returns-4 c = sym (ap formatOfNumber (c .match .keys4))
 
 returns-5 : tie.Need-returns-5
-returns-5 c = sym (ap numbered (c .match .keys5))
+returns-5 c = sym (ap formatOfNumber (c .match .keys5))
 
 returns-6 : tie.Need-returns-6
-returns-6 c = sym (ap numbered (c .match .keys6))
+returns-6 c = sym (ap formatOfNumber (c .match .keys6))
 
 returns-7 : tie.Need-returns-7
 returns-7 c = sym (List·getD-eq-default formats Undefined {n = c .before .args .number} (omega arith))

@@ -5,7 +5,7 @@ use borrow.Author.Needs.{needs}
 use Rattle.rules.specs.Rule.{value}
 use Rattle.rules.proofs.Fill.{Filling, fill-start, fill-next, fill-over}
 use Rattle.line_pixels.specs.Cells.{pixelView}
-use Rattle.line_pixels.specs.Colour.{colourOf}
+use Rattle.line_pixels.specs.Colour.{colourOfPixel}
 use Rattle.line_pixels.proofs.Rows.{in-row}
 use Rattle.line_pixels.proofs.LayersCases.{run-plain}
 use Rattle.line_pixels.proofs.Screen.fill.Statement.{statement}
@@ -13,7 +13,7 @@ use Rattle.line_pixels.proofs.Screen.fill.Tie as tie
 
 abbrev Inv-loop : tie.InvT-loop
 Inv-loop self entry store normal overlay x count out₀ i₀ out i =
-    Filling (λ p. value (pixelView store normal overlay) (colourOf self entry p)) x count out₀ out i
+    Filling (λ p. value (pixelView store normal overlay) (colourOfPixel self entry p)) x count out₀ out i
 
 abbrev μ-loop : tie.MeasureT-loop
 μ-loop self entry store normal overlay x count out₀ i₀ out i = count - i

@@ -1,7 +1,7 @@
 -- `refusals::Refusal::place` meets its contract: each case holds its place. Assumes nothing.
 use mathlib.Core.Path.{ap, sym}
 use borrow.Author.Needs.{needs}
-use Rattle.refusals.specs.Refusal.{placeOf}
+use Rattle.refusals.specs.Refusal.{refusalPlace}
 use Rattle.refusals.proofs.Refusal.place.Statement.{statement}
 use Rattle.refusals.proofs.Refusal.place.Tie as tie
 
@@ -60,16 +60,16 @@ enum-known-self-11 : tie.Need-enum-known-self-11
 enum-known-self-11 c = search needs
 
 returns : tie.Need-returns
-returns c = ap placeOf (sym (c .before .self .given .1))
+returns c = ap refusalPlace (sym (c .before .self .given .1))
 
 returns-2 : tie.Need-returns-2
-returns-2 c = ap placeOf (sym (c .before .self2 .given .1))
+returns-2 c = ap refusalPlace (sym (c .before .self2 .given .1))
 
 returns-3 : tie.Need-returns-3
-returns-3 c = ap placeOf (sym (c .before .self3 .given .1))
+returns-3 c = ap refusalPlace (sym (c .before .self3 .given .1))
 
 returns-4 : tie.Need-returns-4
-returns-4 c = ap placeOf (sym (c .before .self4 .given .1))
+returns-4 c = ap refusalPlace (sym (c .before .self4 .given .1))
 
 returns-5 : tie.Need-returns-5
 returns-5 c = search needs
@@ -87,16 +87,16 @@ returns-9 : tie.Need-returns-9
 returns-9 c = search needs
 
 returns-10 : tie.Need-returns-10
-returns-10 c = ap placeOf (sym (c .before .self5 .given .1))
+returns-10 c = ap refusalPlace (sym (c .before .self5 .given .1))
 
 returns-11 : tie.Need-returns-11
-returns-11 c = ap placeOf (sym (c .before .self6 .given .1))
+returns-11 c = ap refusalPlace (sym (c .before .self6 .given .1))
 
 returns-12 : tie.Need-returns-12
-returns-12 c = ap placeOf (sym (c .before .self7 .given .1))
+returns-12 c = ap refusalPlace (sym (c .before .self7 .given .1))
 
 returns-13 : tie.Need-returns-13
-returns-13 c = ap placeOf (sym (c .before .self8 .given .1))
+returns-13 c = ap refusalPlace (sym (c .before .self8 .given .1))
 
 returns-14 : tie.Need-returns-14
 returns-14 c = search needs
@@ -105,13 +105,13 @@ returns-15 : tie.Need-returns-15
 returns-15 c = search needs
 
 returns-16 : tie.Need-returns-16
-returns-16 c = ap placeOf (sym (c .before .self9 .given .1))
+returns-16 c = ap refusalPlace (sym (c .before .self9 .given .1))
 
 returns-17 : tie.Need-returns-17
-returns-17 c = ap placeOf (sym (c .before .self10 .given .1))
+returns-17 c = ap refusalPlace (sym (c .before .self10 .given .1))
 
 returns-18 : tie.Need-returns-18
-returns-18 c = ap placeOf (sym (c .before .self11 .given .1))
+returns-18 c = ap refusalPlace (sym (c .before .self11 .given .1))
 
 pub place-spec : {M : Type 1} → statement M
 place-spec =

@@ -5,7 +5,7 @@ use mathlib.Core.Bool.{Bool, true, false, cond}
 use native.Mathlib.Omega.{arith}
 use borrow.Author.Needs.{needs}
 use Rattle.session_answers.specs.Answers.{over}
-use Rattle.session_answers.specs.declared.Answer.{Answer}
+use Rattle.session_answers.specs.declared.StepAnswer.{StepAnswer}
 use Rattle.replay.specs.Run.{withFrom, ended, movedBy}
 use Rattle.replay.specs.declared.course.Going.the-variants.{Over}
 use Rattle.replay.specs.declared.course.Course.{Course}
@@ -13,7 +13,7 @@ use Rattle.replay.proofs.run.answered.Statement.{statement}
 use Rattle.replay.proofs.run.answered.Tie as tie
 
 -- however a run moves on, as many bytes wait
-same-end : (answer : Answer) (place : ℕ) (course : Course) → movedBy answer place course .to ≡ course .to
+same-end : (answer : StepAnswer) (place : ℕ) (course : Course) → movedBy answer place course .to ≡ course .to
 same-end answer place course = by (over answer)
   where
     by : (test : Bool) → cond test (ended (withFrom course place) Over) (withFrom course place) .to ≡ course .to

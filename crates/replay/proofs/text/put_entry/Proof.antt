@@ -8,7 +8,7 @@ use denote.Ref.{now}
 use lib.Dec.{leb}
 use lib.ListN.{length}
 use Rattle.rules.proofs.Cases.{impossible}
-use Rattle.session_listing.specs.Text.{Listed, said, text}
+use Rattle.session_listing.specs.Text.{EntrySays, entrySays, text}
 use Rattle.session_listing.specs.Room.{roomFor, placed, rendered}
 use Rattle.session_listing.specs.declared.render.Rendered.{Rendered}
 use Rattle.session_listing.specs.declared.render.Rendered.the-variants.{To, NoRoom}
@@ -23,7 +23,7 @@ endOf (To end) = end
 endOf NoRoom = 0
 
 -- where there is room, the text stands behind what waits
-roomy : (entry : Listed) (output lent : List ℕ) (at : ℕ) {answer : Rendered × List ℕ} → answer ≡ rendered entry output lent at
+roomy : (entry : EntrySays) (output lent : List ℕ) (at : ℕ) {answer : Rendered × List ℕ} → answer ≡ rendered entry output lent at
     → leb (at + roomFor entry output) (length lent) ≡ true → answer ≡ (To (at + length (text entry output)), placed lent at (text entry output))
 roomy entry output lent at is room = is ∙ rw room refl
 
@@ -54,7 +54,7 @@ returns c =
     let rendering = after .before .before .before .before in
     let given = rendering .before .before .before .before .args in (
       c .before .before .put-first .ensures,
-      λ room. let both = roomy (said (given .entry)) (now (given .output)) (now (given .text)) (given .course .put) (rendering .render .ensures) room in impossible (cc (after .enum-told .given .1, ap (λ (all : Rendered × List ℕ). all .0) both)),
+      λ room. let both = roomy (entrySays (given .entry)) (now (given .output)) (now (given .text)) (given .course .put) (rendering .render .ensures) room in impossible (cc (after .enum-told .given .1, ap (λ (all : Rendered × List ℕ). all .0) both)),
     )
 
 ending-requires : tie.Need-ending-requires
@@ -70,7 +70,7 @@ returns-2 c =
     let given = rendering .before .before .before .before .args in (
       ap (λ (next : Course). next .to) (c .with-put .ensures),
       λ room.
-          let both = roomy (said (given .entry)) (now (given .output)) (now (given .text)) (given .course .put) (rendering .render .ensures) room in
+          let both = roomy (entrySays (given .entry)) (now (given .output)) (now (given .text)) (given .course .put) (rendering .render .ensures) room in
           ap₂ (λ (next : Course) (left : List ℕ). (next, left))
           (c .with-put .ensures
           ∙ ap (withPut (given .course)) (ap endOf (sym (after .next .given .1) ∙ ap (λ (all : Rendered × List ℕ). all .0) both)))
@@ -86,7 +86,7 @@ returns-3 c =
     let rendering = after .before .before .before .before in
     let given = rendering .before .before .before .before .args in (
       ap (λ (next : Course). next .to) (c .ending .ensures),
-      λ room. let both = roomy (said (given .entry)) (now (given .output)) (now (given .text)) (given .course .put) (rendering .render .ensures) room in impossible (cc (after .enum-told .given .1, ap (λ (all : Rendered × List ℕ). all .0) both)),
+      λ room. let both = roomy (entrySays (given .entry)) (now (given .output)) (now (given .text)) (given .course .put) (rendering .render .ensures) room in impossible (cc (after .enum-told .given .1, ap (λ (all : Rendered × List ℕ). all .0) both)),
     )
 
 pub put-entry-spec : {M : Type 1} → statement M

@@ -6,8 +6,8 @@ use borrow.Author.Needs.{needs}
 use denote.Ref.{now}
 use lib.ListN.{length, drop}
 use Rattle.rules.specs.Checked.{verdict}
-use Rattle.refusals.specs.Refusal.{fitTold}
-use Rattle.refusals.specs.declared.Fit.{Fit}
+use Rattle.refusals.specs.Refusal.{answerOutcome}
+use Rattle.refusals.specs.declared.Answer.{Answer}
 use Rattle.session_records.proofs.Accepted.{found-accepted}
 use Rattle.session_records.proofs.Limits.{numbered-below}
 use Rattle.session.specs.Lent.{roomsOf}
@@ -16,19 +16,19 @@ use Rattle.session.proofs.Stepping.{judgedBy, ends-within, body-part, b
 use Rattle.session.proofs.step.step.Statement.{statement}
 use Rattle.session.proofs.step.step.Tie as tie
 
-fit-requires : tie.Need-fit-requires
-fit-requires c κs = search needs
+step-check-requires : tie.Need-step-check-requires
+step-check-requires c κs = search needs
 
-enum-known-fits : tie.Need-enum-known-fits
-enum-known-fits c = search needs
+enum-known-allowed : tie.Need-enum-known-allowed
+enum-known-allowed c = search needs
 
 returns : tie.Need-returns
 returns c =
     let tested = c .before .before .before in
     let given = tested .before .before .before .before .before .before .before .args in
     let rooms = roomsOf (now (given .store)) (now (given .table)) (now (given .normal)) (now (given .overlay)) (now (given .output)) in
-    step-refused (given .session) rooms (now (given .bytes)) (given .place) (given .last) (c .before .fits2 .given .0 .0)
-    (subst (λ (answer : Fit). fitTold answer ≡ verdict (stepFaults (given .session) rooms)) (c .before .fits2 .given .1) (tested .fit .ensures))
+    step-refused (given .session) rooms (now (given .bytes)) (given .place) (given .last) (c .before .allowed .given .0 .0)
+    (subst (λ (answer : Answer). answerOutcome answer ≡ verdict (stepFaults (given .session) rooms)) (c .before .allowed .given .1) (tested .step-check .ensures))
 
 enum-told : tie.Need-enum-told
 enum-told c = search needs
@@ -77,7 +77,7 @@ act-requires c κs =
     let which = found-at .found .given .0 .0 in
     let count = found-at .found .given .0 .1 .0 in
     let accepted = found-accepted (judgedBy (given .session) rooms (given .last)) unread is in
-    let passed = sym (subst (λ (answer : Fit). fitTold answer ≡ verdict (stepFaults (given .session) rooms)) (asked .before .enum-told .given .1) (tested .fit .ensures)) in
+    let passed = sym (subst (λ (answer : Answer). answerOutcome answer ≡ verdict (stepFaults (given .session) rooms)) (asked .before .enum-told .given .1) (tested .step-check .ensures)) in
     let fit = fitted (given .session) rooms passed in (
       numbered-below (judgedBy (given .session) rooms (given .last)) unread is,
       (
@@ -119,7 +119,7 @@ returns-2 c =
     let which = found-at .found .given .0 .0 in
     let count = found-at .found .given .0 .1 .0 in
     let accepted = found-accepted (judgedBy (given .session) rooms (given .last)) unread is in
-    let passed = sym (subst (λ (answer : Fit). fitTold answer ≡ verdict (stepFaults (given .session) rooms)) (asked .before .enum-told .given .1) (tested .fit .ensures)) in
+    let passed = sym (subst (λ (answer : Answer). answerOutcome answer ≡ verdict (stepFaults (given .session) rooms)) (asked .before .enum-told .given .1) (tested .step-check .ensures)) in
     rw (add-assoc (given .place) 3 count)
     (step-acts (given .session) rooms (now (given .bytes)) (given .place) (given .last) passed which count is _
     (body-part (now (given .bytes)) (given .place) count (accepted .length-is))
@@ -131,7 +131,7 @@ returns-3 c =
     let given = tested .before .before .before .before .before .before .before .args in
     let rooms = roomsOf (now (given .store)) (now (given .table)) (now (given .normal)) (now (given .overlay)) (now (given .output)) in
     step-waits (given .session) rooms (now (given .bytes)) (given .place) (given .last)
-    (sym (subst (λ (answer : Fit). fitTold answer ≡ verdict (stepFaults (given .session) rooms)) (c .before .before .before .enum-told .given .1) (tested .fit .ensures)))
+    (sym (subst (λ (answer : Answer). answerOutcome answer ≡ verdict (stepFaults (given .session) rooms)) (c .before .before .before .enum-told .given .1) (tested .step-check .ensures)))
     (sym (c .before .before .read .ensures) ∙ c .enum-told2 .given .1)
 
 returns-4 : tie.Need-returns-4
@@ -140,15 +140,15 @@ returns-4 c =
     let given = tested .before .before .before .before .before .before .before .args in
     let rooms = roomsOf (now (given .store)) (now (given .table)) (now (given .normal)) (now (given .overlay)) (now (given .output)) in
     step-stops (given .session) rooms (now (given .bytes)) (given .place) (given .last)
-    (sym (subst (λ (answer : Fit). fitTold answer ≡ verdict (stepFaults (given .session) rooms)) (c .before .before .before .before .enum-told .given .1) (tested .fit .ensures)))
+    (sym (subst (λ (answer : Answer). answerOutcome answer ≡ verdict (stepFaults (given .session) rooms)) (c .before .before .before .before .enum-told .given .1) (tested .step-check .ensures)))
     (c .before .found2 .given .0 .0) (sym (c .before .before .before .read .ensures) ∙ c .before .found2 .given .1)
 
 pub step-spec : {M : Type 1} → statement M
 step-spec =
     tie.close
     (tie.spec
-    fit-requires
-    enum-known-fits
+    step-check-requires
+    enum-known-allowed
     returns
     enum-told
     read-requires

@@ -2,7 +2,7 @@
 use native.Mathlib.Omega.{arith}
 use borrow.Author.Needs.{needs}
 use denote.Ref.{now}
-use Rattle.session_listing.specs.Text.{said}
+use Rattle.session_listing.specs.Text.{entrySays}
 use Rattle.session_listing.proofs.Puts.{put-as}
 use Rattle.session_listing.proofs.Texts.{shown-length, whole-text}
 use Rattle.session_listing.proofs.Rendering.{without-room, with-room}
@@ -15,7 +15,7 @@ of-requires c κs = search needs
 returns : tie.Need-returns
 returns c =
     let given = c .before .before .before .before .args in
-    without-room (said (given .entry)) (now (given .output)) (now (given .text)) (given .at) (omega arith)
+    without-room (entrySays (given .entry)) (now (given .output)) (now (given .text)) (given .at) (omega arith)
 
 sub-if2 : tie.Need-sub-if2
 sub-if2 c = search needs
@@ -29,8 +29,8 @@ add-if2 c = search needs
 returns-2 : tie.Need-returns-2
 returns-2 c =
     let given = c .before .before .before .before .before .before .args in
-    without-room (said (given .entry)) (now (given .output)) (now (given .text)) (given .at)
-    (omega (arith, shown-length (said (given .entry)) (now (given .output))))
+    without-room (entrySays (given .entry)) (now (given .output)) (now (given .text)) (given .at)
+    (omega (arith, shown-length (entrySays (given .entry)) (now (given .output))))
 
 put-entry-requires : tie.Need-put-entry-requires
 put-entry-requires c κs = search needs
@@ -42,9 +42,9 @@ returns-3 : tie.Need-returns-3
 returns-3 c =
     let parts = c .before .before .before .before .before .before .before in
     let given = parts .before .before .before .args in
-    with-room (said (given .entry)) (now (given .output)) (now (given .text)) (given .at)
-    (omega (arith, shown-length (said (given .entry)) (now (given .output))))
-    (put-as (c .before .before .put-entry .ensures) (whole-text (said (given .entry)) (now (given .output)) (parts .of .result) (parts .of .ensures)))
+    with-room (entrySays (given .entry)) (now (given .output)) (now (given .text)) (given .at)
+    (omega (arith, shown-length (entrySays (given .entry)) (now (given .output))))
+    (put-as (c .before .before .put-entry .ensures) (whole-text (entrySays (given .entry)) (now (given .output)) (parts .of .result) (parts .of .ensures)))
 
 pub render-spec : {M : Type 1} → statement M
 render-spec =

@@ -6,7 +6,7 @@ use borrow.Author.Needs.{needs}
 use denote.Ref.{now}
 use lib.ListN.{length, drop, length-drop, drop-of-length-le}
 use lib.Seq.{take-all}
-use Rattle.session_records.specs.Found.{found}
+use Rattle.session_records.specs.RecordAt.{recordAt}
 use Rattle.session_records.proofs.record.record_at.Statement.{statement}
 use Rattle.session_records.proofs.record.record_at.Tie as tie
 
@@ -27,7 +27,7 @@ returns c =
     let given = c .before .before .before .before .args in
     let bytes = now (given .bytes) in
     c .front .ensures
-    ∙ ap (found (given .context)) (take-all (length bytes - given .place) (drop (given .place) bytes) (rw length-drop (omega arith)))
+    ∙ ap (recordAt (given .context)) (take-all (length bytes - given .place) (drop (given .place) bytes) (rw length-drop (omega arith)))
 
 slice-aggregate-front : tie.Need-slice-aggregate-front
 slice-aggregate-front c = search needs
@@ -38,7 +38,7 @@ front-requires-2 c κs = search needs
 returns-2 : tie.Need-returns-2
 returns-2 c =
     let given = c .before .before .before .before .args in
-    c .front2 .ensures ∙ ap (found (given .context)) (sym (drop-of-length-le (now (given .bytes)) {i = given .place} (c .before .before .if1 .left)))
+    c .front2 .ensures ∙ ap (recordAt (given .context)) (sym (drop-of-length-le (now (given .bytes)) {i = given .place} (c .before .before .if1 .left)))
 
 pub record-at-spec : {M : Type 1} → statement M
 record-at-spec =

@@ -2,25 +2,25 @@
 use mathlib.Core.Path.{sym, _∙_, ap}
 use borrow.Author.Needs.{needs}
 use Rattle.rules.specs.Rule.{ok}
-use Rattle.refusals.specs.Refusal.{fitTold}
+use Rattle.refusals.specs.Refusal.{answerOutcome}
 use Rattle.chip_timing.specs.declared.Signals.{Signals}
 use Rattle.chip.specs.Call.{Chip}
 use Rattle.chip.specs.Dot.{afterDot}
-use Rattle.chip.proofs.Fit.{fit-says}
+use Rattle.chip.proofs.CallCheck.{allowed-says}
 use Rattle.chip.proofs.Runs.{dot-unfit, dot-done}
 use Rattle.chip.proofs.state.State.dot.Statement.{statement}
 use Rattle.chip.proofs.state.State.dot.Tie as tie
 
-fit-requires : tie.Need-fit-requires
-fit-requires c κs = search needs
+call-check-requires : tie.Need-call-check-requires
+call-check-requires c κs = search needs
 
-enum-known-fit : tie.Need-enum-known-fit
-enum-known-fit c = search needs
+enum-known-allowed : tie.Need-enum-known-allowed
+enum-known-allowed c = search needs
 
 returns : tie.Need-returns
 returns c =
     let f = c .before .before .before in
-    sym (dot-unfit (f .before .before .args .self, f .before .before .args .store .now) _ (sym (f .fit .ensures) ∙ ap fitTold (c .before .fit2 .given .1)))
+    sym (dot-unfit (f .before .before .args .self, f .before .before .args .store .now) _ (sym (f .call-check .ensures) ∙ ap answerOutcome (c .before .allowed .given .1)))
 
 enum-told : tie.Need-enum-told
 enum-told c = search needs
@@ -32,7 +32,7 @@ step-requires : tie.Need-step-requires
 step-requires c κs =
     let g = c .before in
     let e = g .before in
-    let fine = fit-says _ _ (sym (e .before .before .fit .ensures) ∙ ap fitTold (e .enum-told .given .1)) in
+    let fine = allowed-says _ _ (sym (e .before .before .call-check .ensures) ∙ ap answerOutcome (e .enum-told .given .1)) in
     (fine .0, fine .1, sym (ap (λ (signals : Signals). signals .blank) (g .signals .ensures)))
 
 same-length : tie.Need-same-length
@@ -47,14 +47,14 @@ returns-2 c =
     let chip : Chip = (f .before .before .args .self, f .before .before .args .store .now) in
     ap (λ (after : Chip). (after, ok (g .signals .result))) (t .step .ensures)
     ∙ ap (λ (signals : Signals). (afterDot chip, ok signals)) (g .signals .ensures)
-    ∙ sym (dot-done chip (sym (f .fit .ensures) ∙ ap fitTold (e .enum-told .given .1)))
+    ∙ sym (dot-done chip (sym (f .call-check .ensures) ∙ ap answerOutcome (e .enum-told .given .1)))
 
 pub dot-spec : {M : Type 1} → statement M
 dot-spec =
     tie.close
     (tie.spec
-    fit-requires
-    enum-known-fit
+    call-check-requires
+    enum-known-allowed
     returns
     enum-told
     signals-requires

@@ -2,27 +2,27 @@
 use mathlib.Core.Path.{ap, sym, _∙_}
 use borrow.Author.Needs.{needs}
 use Rattle.rules.specs.Rule.{ok}
-use Rattle.refusals.specs.Refusal.{fitTold}
+use Rattle.refusals.specs.Refusal.{answerOutcome}
 use Rattle.chip_timing.specs.declared.Signals.{Signals}
 use Rattle.chip.specs.Call.{Chip}
 use Rattle.chip.specs.Dot.{signalsOf, afterDot}
 use Rattle.chip.specs.declared.dots.Report.the-variants.{Last}
-use Rattle.chip.proofs.Fit.{fit-says}
+use Rattle.chip.proofs.CallCheck.{allowed-says}
 use Rattle.chip.proofs.Runs.{dots-unfit, dots-none, dots-some}
 use Rattle.chip.proofs.state.State.dots.Statement.{statement}
 use Rattle.chip.proofs.state.State.dots.Tie as tie
 
-fit-requires : tie.Need-fit-requires
-fit-requires c κs = search needs
+call-check-requires : tie.Need-call-check-requires
+call-check-requires c κs = search needs
 
-enum-known-fit : tie.Need-enum-known-fit
-enum-known-fit c = search needs
+enum-known-allowed : tie.Need-enum-known-allowed
+enum-known-allowed c = search needs
 
 returns : tie.Need-returns
 returns c =
     let f = c .before .before .before in
     let s = f .before .before .args in
-    sym (dots-unfit (s .self, s .store .now) (s .count) _ (sym (f .fit .ensures) ∙ ap fitTold (c .before .fit2 .given .1)))
+    sym (dots-unfit (s .self, s .store .now) (s .count) _ (sym (f .call-check .ensures) ∙ ap answerOutcome (c .before .allowed .given .1)))
 
 enum-told : tie.Need-enum-told
 enum-told c = search needs
@@ -31,7 +31,7 @@ returns-2 : tie.Need-returns-2
 returns-2 c =
     let f = c .before .before .before in
     let s = f .before .before .args in
-    sym (dots-none (s .self, s .store .now) (s .count) (sym (f .fit .ensures) ∙ ap fitTold (c .before .enum-told .given .1)) (c .if1 .taken))
+    sym (dots-none (s .self, s .store .now) (s .count) (sym (f .call-check .ensures) ∙ ap answerOutcome (c .before .enum-told .given .1)) (c .if1 .taken))
 
 sub-steps : tie.Need-sub-steps
 sub-steps c = search needs
@@ -39,7 +39,7 @@ sub-steps c = search needs
 steps-requires : tie.Need-steps-requires
 steps-requires c κs =
     let e = c .before .before in
-    fit-says _ _ (sym (e .before .before .fit .ensures) ∙ ap fitTold (e .enum-told .given .1))
+    allowed-says _ _ (sym (e .before .before .call-check .ensures) ∙ ap answerOutcome (e .enum-told .given .1))
 
 signals-requires : tie.Need-signals-requires
 signals-requires c κs = search needs
@@ -66,14 +66,14 @@ returns-3 c =
     ap (λ (after : Chip). (after, ok (Last (g .signals .result)))) (t .step .ensures)
     ∙ ap (λ (signals : Signals). (afterDot before, ok (Last signals))) (g .signals .ensures)
     ∙ ap (λ (before : Chip). (afterDot before, ok (Last (signalsOf (before .0))))) (p .steps .ensures .0)
-    ∙ sym (dots-some chip (s .count) (sym (f .fit .ensures) ∙ ap fitTold (e .enum-told .given .1)) (p .before .before .if1 .left))
+    ∙ sym (dots-some chip (s .count) (sym (f .call-check .ensures) ∙ ap answerOutcome (e .enum-told .given .1)) (p .before .before .if1 .left))
 
 pub dots-spec : {M : Type 1} → statement M
 dots-spec =
     tie.close
     (tie.spec
-    fit-requires
-    enum-known-fit
+    call-check-requires
+    enum-known-allowed
     returns
     enum-told
     returns-2

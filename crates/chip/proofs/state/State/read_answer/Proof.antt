@@ -3,25 +3,25 @@ use Prim.Native.Nat.{ℕ}
 use mathlib.Core.Path.{ap, sym, _∙_}
 use borrow.Author.Needs.{needs}
 use Rattle.rules.specs.Rule.{ok, refused}
-use Rattle.refusals.specs.Refusal.{numbered, fitTold}
+use Rattle.refusals.specs.Refusal.{numbered, answerOutcome}
 use Rattle.refusals.specs.declared.Refusal.the-variants.{NoRegister}
 use Rattle.chip_registers.proofs.Naming.{named-word}
-use Rattle.chip.proofs.Fit.{fit-says}
+use Rattle.chip.proofs.CallCheck.{allowed-says}
 use Rattle.chip.proofs.Readings.{read-unfit, read-nowhere, read-shown}
 use Rattle.chip.proofs.state.State.read_answer.Statement.{statement}
 use Rattle.chip.proofs.state.State.read_answer.Tie as tie
 
-fit-requires : tie.Need-fit-requires
-fit-requires c κs = search needs
+call-check-requires : tie.Need-call-check-requires
+call-check-requires c κs = search needs
 
-enum-known-fit : tie.Need-enum-known-fit
-enum-known-fit c = search needs
+enum-known-allowed : tie.Need-enum-known-allowed
+enum-known-allowed c = search needs
 
 returns : tie.Need-returns
 returns c =
     let f = c .before .before .before in
     let s = f .before .before .args in
-    sym (read-unfit (s .self, s .store .now) (s .address) _ (sym (f .fit .ensures) ∙ ap fitTold (c .before .fit2 .given .1)))
+    sym (read-unfit (s .self, s .store .now) (s .address) _ (sym (f .call-check .ensures) ∙ ap answerOutcome (c .before .allowed .given .1)))
 
 enum-told : tie.Need-enum-told
 enum-told c = search needs
@@ -45,7 +45,7 @@ returns-2 c =
     let f = e .before .before in
     let s = f .before .before .args in
     ap (λ (place : ℕ). ((s .self, s .store .now), refused (numbered (NoRegister place)))) (c .place .ensures)
-    ∙ sym (read-nowhere (s .self, s .store .now) (s .address) (sym (f .fit .ensures) ∙ ap fitTold (e .enum-told .given .1)) (sym (a .at .ensures) ∙ c .before .enum-told2 .given .1))
+    ∙ sym (read-nowhere (s .self, s .store .now) (s .address) (sym (f .call-check .ensures) ∙ ap answerOutcome (e .enum-told .given .1)) (sym (a .at .ensures) ∙ c .before .enum-told2 .given .1))
 
 shown-requires : tie.Need-shown-requires
 shown-requires c κs =
@@ -53,7 +53,7 @@ shown-requires c κs =
     let a = n .before .before in
     let e = a .before in
     let f = e .before .before in
-    let fine = fit-says _ _ (sym (f .fit .ensures) ∙ ap fitTold (e .enum-told .given .1)) in
+    let fine = allowed-says _ _ (sym (f .call-check .ensures) ∙ ap answerOutcome (e .enum-told .given .1)) in
     (fine .0, named-word _ _ (sym (a .at .ensures) ∙ n .named .given .1), fine .1)
 
 returns-3 : tie.Need-returns-3
@@ -64,14 +64,14 @@ returns-3 c =
     let f = e .before .before in
     let s = f .before .before .args in
     ap (λ (word : ℕ). ((s .self, s .store .now), ok word)) (c .shown .ensures)
-    ∙ sym (read-shown (s .self, s .store .now) (s .address) (sym (f .fit .ensures) ∙ ap fitTold (e .enum-told .given .1)) _ (sym (a .at .ensures) ∙ n .named .given .1))
+    ∙ sym (read-shown (s .self, s .store .now) (s .address) (sym (f .call-check .ensures) ∙ ap answerOutcome (e .enum-told .given .1)) _ (sym (a .at .ensures) ∙ n .named .given .1))
 
 pub read-answer-spec : {M : Type 1} → statement M
 read-answer-spec =
     tie.close
     (tie.spec
-    fit-requires
-    enum-known-fit
+    call-check-requires
+    enum-known-allowed
     returns
     enum-told
     at-requires

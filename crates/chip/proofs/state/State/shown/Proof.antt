@@ -7,7 +7,7 @@ use Rattle.chip_registers.specs.Store.{storeLength}
 use Rattle.chip_registers.specs.declared.Block.{Block}
 use Rattle.chip_registers.proofs.Store.{store-below}
 use Rattle.chip_registers.proofs.Access.{elsewhere-stored}
-use Rattle.chip.specs.Read.{shownIn}
+use Rattle.chip.specs.Read.{blockShows}
 use Rattle.chip.proofs.Blocks.{stored-shown}
 use Rattle.chip.proofs.state.State.shown.Statement.{statement}
 use Rattle.chip.proofs.state.State.shown.Tie as tie
@@ -41,7 +41,7 @@ kept-requires c κs = search needs
 returns : tie.Need-returns
 returns c =
     let s = c .before .before .before .before .args in
-    c .shown-of-control .ensures ∙ sym (ap (λ (block : Block). shownIn (s .self, s .store .now) block (s .register)) (c .before .enum-told .given .1))
+    c .shown-of-control .ensures ∙ sym (ap (λ (block : Block). blockShows (s .self, s .store .now) block (s .register)) (c .before .enum-told .given .1))
 
 returns-2 : tie.Need-returns-2
 returns-2 c =

@@ -2,7 +2,7 @@
 use Prim.Native.Nat.{ℕ}
 use mathlib.Core.Path.{ap, _∙_}
 use borrow.Author.Needs.{needs}
-use Rattle.chip.specs.Read.{shownBy}
+use Rattle.chip.specs.Read.{controlShowsBy}
 use Rattle.chip.proofs.Good.{good-says}
 use Rattle.chip.proofs.state.State.shown_of_control.Statement.{statement}
 use Rattle.chip.proofs.state.State.shown_of_control.Tie as tie
@@ -19,7 +19,7 @@ shown-by-requires c κs =
 returns : tie.Need-returns
 returns c =
     let s = c .before .before .before .before .args in
-    c .shown-by .ensures ∙ ap (λ (room : ℕ). shownBy (s .self .control) room (s .self .at) (s .word)) (c .before .room .ensures)
+    c .shown-by .ensures ∙ ap (λ (room : ℕ). controlShowsBy (s .self .control) room (s .self .at) (s .word)) (c .before .room .ensures)
 
 pub shown-of-control-spec : {M : Type 1} → statement M
 shown-of-control-spec = tie.close (tie.spec room-requires shown-by-requires returns)

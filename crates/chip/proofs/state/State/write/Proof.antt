@@ -21,11 +21,11 @@ judges : (c : tie.After-judged) {judged : Verdict} → c .judged .result ≡ jud
 judges c {judged} is =
     let given = c .before .before .before .before .before .args in
     subst (λ (test : Outcome Numbered (Unit {0})). Judged test (named (given .address)) judged)
-    (sym (write-tested (given .self, given .store .now) (given .address) (given .value) (c .before .before .fit .result) (c .before .full .result) (c .before .before .fit .ensures) (c .before .full .ensures)))
+    (sym (write-tested (given .self, given .store .now) (given .address) (given .value) (c .before .before .call-check .result) (c .before .full .result) (c .before .before .call-check .ensures) (c .before .full .ensures)))
     (subst (Judged _ (named (given .address))) is (c .judged .ensures))
 
-fit-requires : tie.Need-fit-requires
-fit-requires c κs = search needs
+call-check-requires : tie.Need-call-check-requires
+call-check-requires c κs = search needs
 
 full-requires : tie.Need-full-requires
 full-requires c κs = search needs
@@ -72,7 +72,7 @@ pub write-spec : {M : Type 1} → statement M
 write-spec =
     tie.close
     (tie.spec
-    fit-requires
+    call-check-requires
     full-requires
     judged-requires
     enum-known-verdict

@@ -8,16 +8,16 @@ use denote.Ref.{now}
 use Rattle.rules.specs.Rule.{Outcome}
 use Rattle.rules.specs.Faults.{Numbered}
 use Rattle.session_records.specs.declared.record.Record.{Record}
-use Rattle.session_answers.specs.Came.{Came}
+use Rattle.session_answers.specs.Status.{Status}
 use Rattle.session.specs.Lent.{Rooms, roomsOf}
-use Rattle.session.specs.Inner.{Fits, actedIn}
+use Rattle.session.specs.Inner.{BodyFits, actedIn}
 use Rattle.session.specs.declared.session.Session.{Session}
 use Rattle.session.proofs.Records.{acts-end, acts-write, acts-dots, acts-table, acts-normal, acts-overlay, acts-line}
 use Rattle.session.proofs.session.Session.act.Statement.{statement}
 use Rattle.session.proofs.session.Session.act.Tie as tie
 
 -- a session and what a record came to, beside the rooms
-abbrev left-in : Session × Outcome Numbered Came → Rooms → (Session × Rooms) × Outcome Numbered Came
+abbrev left-in : Session × Outcome Numbered Status → Rooms → (Session × Rooms) × Outcome Numbered Status
 left-in left rooms = ((left .0, rooms), left .1)
 
 enum-told : tie.Need-enum-told
@@ -43,7 +43,7 @@ keep-requires c κs =
     let start = c .before .before .before .before .before .before .before .before .before in
     let given = start .args in
     let rooms = roomsOf (now (given .store)) (now (given .table)) (now (given .normal)) (now (given .overlay)) (now (given .output)) in
-    subst (λ (which : Record). Fits (given .self) rooms which (now (given .body))) (c .before .enum-told2 .given .1) (start .pre .1 .1)
+    subst (λ (which : Record). BodyFits (given .self) rooms which (now (given .body))) (c .before .enum-told2 .given .1) (start .pre .1 .1)
 
 add-holding : tie.Need-add-holding
 add-holding c = search needs
@@ -59,7 +59,7 @@ keep-requires-2 c κs =
     let start = c .before .before .before .before .before .before .before .before .before in
     let given = start .args in
     let rooms = roomsOf (now (given .store)) (now (given .table)) (now (given .normal)) (now (given .overlay)) (now (given .output)) in
-    rw zero-add (subst (λ (which : Record). Fits (given .self) rooms which (now (given .body))) (c .before .enum-told3 .given .1) (start .pre .1 .1))
+    rw zero-add (subst (λ (which : Record). BodyFits (given .self) rooms which (now (given .body))) (c .before .enum-told3 .given .1) (start .pre .1 .1))
 
 holding-requires-2 : tie.Need-holding-requires-2
 holding-requires-2 c κs = search needs
@@ -72,7 +72,7 @@ keep-requires-3 c κs =
     let start = c .before .before .before .before .before .before .before .before .before in
     let given = start .args in
     let rooms = roomsOf (now (given .store)) (now (given .table)) (now (given .normal)) (now (given .overlay)) (now (given .output)) in
-    rw zero-add (subst (λ (which : Record). Fits (given .self) rooms which (now (given .body))) (c .before .enum-told4 .given .1) (start .pre .1 .1))
+    rw zero-add (subst (λ (which : Record). BodyFits (given .self) rooms which (now (given .body))) (c .before .enum-told4 .given .1) (start .pre .1 .1))
 
 holding-requires-3 : tie.Need-holding-requires-3
 holding-requires-3 c κs = search needs
@@ -123,7 +123,7 @@ returns-4 c =
     let start = c .before .before .before .before .before .before .before .before .before .before .before .before .before in
     let given = start .args in
     let rooms = roomsOf (now (given .store)) (now (given .table)) (now (given .normal)) (now (given .overlay)) (now (given .output)) in
-    ap₂ (λ (left : Session × Outcome Numbered Came) (kept : List ℕ). left-in left (roomsOf (now (given .store)) kept (now (given .normal)) (now (given .overlay)) (now (given .output)))) (c .holding .ensures) (c .before .before .before .keep .ensures)
+    ap₂ (λ (left : Session × Outcome Numbered Status) (kept : List ℕ). left-in left (roomsOf (now (given .store)) kept (now (given .normal)) (now (given .overlay)) (now (given .output)))) (c .holding .ensures) (c .before .before .before .keep .ensures)
     ∙ acts-table (given .self) rooms (now (given .body)) (start .pre .1 .0)
     ∙ ap (λ (which : Record). actedIn (given .self) rooms which (now (given .body))) (sym (c .before .before .before .before .before .enum-told2 .given .1))
 
@@ -135,7 +135,7 @@ returns-5 c =
     let start = c .before .before .before .before .before .before .before .before .before .before .before .before .before in
     let given = start .args in
     let rooms = roomsOf (now (given .store)) (now (given .table)) (now (given .normal)) (now (given .overlay)) (now (given .output)) in
-    ap₂ (λ (left : Session × Outcome Numbered Came) (kept : List ℕ). left-in left (roomsOf (now (given .store)) (now (given .table)) kept (now (given .overlay)) (now (given .output)))) (c .holding2 .ensures) (c .before .before .before .keep2 .ensures)
+    ap₂ (λ (left : Session × Outcome Numbered Status) (kept : List ℕ). left-in left (roomsOf (now (given .store)) (now (given .table)) kept (now (given .overlay)) (now (given .output)))) (c .holding2 .ensures) (c .before .before .before .keep2 .ensures)
     ∙ acts-normal (given .self) rooms (now (given .body)) (start .pre .1 .0)
     ∙ ap (λ (which : Record). actedIn (given .self) rooms which (now (given .body))) (sym (c .before .before .before .before .before .enum-told3 .given .1))
 
@@ -147,7 +147,7 @@ returns-6 c =
     let start = c .before .before .before .before .before .before .before .before .before .before .before .before .before in
     let given = start .args in
     let rooms = roomsOf (now (given .store)) (now (given .table)) (now (given .normal)) (now (given .overlay)) (now (given .output)) in
-    ap₂ (λ (left : Session × Outcome Numbered Came) (kept : List ℕ). left-in left (roomsOf (now (given .store)) (now (given .table)) (now (given .normal)) kept (now (given .output)))) (c .holding3 .ensures) (c .before .before .before .keep3 .ensures)
+    ap₂ (λ (left : Session × Outcome Numbered Status) (kept : List ℕ). left-in left (roomsOf (now (given .store)) (now (given .table)) (now (given .normal)) kept (now (given .output)))) (c .holding3 .ensures) (c .before .before .before .keep3 .ensures)
     ∙ acts-overlay (given .self) rooms (now (given .body)) (start .pre .1 .0)
     ∙ ap (λ (which : Record). actedIn (given .self) rooms which (now (given .body))) (sym (c .before .before .before .before .before .enum-told4 .given .1))
 

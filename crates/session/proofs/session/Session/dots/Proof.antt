@@ -5,7 +5,7 @@ use denote.Ref.{now}
 use Rattle.rules.specs.Rule.{Outcome}
 use Rattle.rules.specs.Faults.{Numbered}
 use Rattle.chip.specs.Call.{Chip}
-use Rattle.chip.specs.Dots.{told, ran}
+use Rattle.chip.specs.Dots.{dotsOutcome, ran}
 use Rattle.chip.specs.declared.dots.Report.{Report}
 use Rattle.session.specs.Record.{entryOf, atPosition}
 use Rattle.session.proofs.Asked.{asked-by}
@@ -32,9 +32,9 @@ returns c =
     let call = c .before .before .before .before .before .before .before in
     let given = call .before .before .before .before .args in
     let after = ran (given .self .state, now (given .store)) (given .count) in
-    asked-by (given .self) (atPosition (after .0 .0 .at)) (call .dots .result .state) (call .dots .last .1 .0) (told (call .dots .result .answer)) after
+    asked-by (given .self) (atPosition (after .0 .0 .at)) (call .dots .result .state) (call .dots .last .1 .0) (dotsOutcome (call .dots .result .answer)) after
     (c .listed .ensures) (c .before .before .with-state .ensures) (call .dots .ensures)
-    (c .before .entry-of-dots .ensures ∙ ap (λ (left : Chip × Outcome Numbered Report). entryOf (atPosition (left .0 .0 .at)) (told (call .dots .result .answer))) (call .dots .ensures))
+    (c .before .entry-of-dots .ensures ∙ ap (λ (left : Chip × Outcome Numbered Report). entryOf (atPosition (left .0 .0 .at)) (dotsOutcome (call .dots .result .answer))) (call .dots .ensures))
 
 pub dots-spec : {M : Type 1} → statement M
 dots-spec =

@@ -5,10 +5,11 @@ use native.Mathlib.Nat.{sub-zero}
 use borrow.Author.Needs.{needs}
 use denote.Ref.{now}
 use lib.ListN.{take}
-use Rattle.session_listing.specs.Text.{line}
+use Rattle.refusals.specs.Refusal.{answerOutcome}
+use Rattle.session_listing.specs.Text.{saysLine}
 use Rattle.line_setup.specs.Controls.{controlsOf}
 use Rattle.line.specs.Cells.{lentOf}
-use Rattle.line.specs.Drawn.{told, drawn}
+use Rattle.line.specs.Drawn.{drawn}
 use Rattle.session.specs.Record.{entryOf}
 use Rattle.session.proofs.Asked.{asked-by}
 use Rattle.session.proofs.session.Session.line.Statement.{statement}
@@ -50,8 +51,8 @@ with-state-requires c κs = search needs
 width-requires : tie.Need-width-requires
 width-requires c κs = search needs
 
-entry-of-line-requires : tie.Need-entry-of-line-requires
-entry-of-line-requires c κs = search needs
+entry-of-requires : tie.Need-entry-of-requires
+entry-of-requires c κs = search needs
 
 listed-requires : tie.Need-listed-requires
 listed-requires c κs = rw (c .before .before .with-state .ensures) (c .before .before .before .before .before .before .before .before .before .before .before .before .before .before .before .before .before .pre .0)
@@ -65,10 +66,10 @@ returns c =
     let given = call .before .before .before .before .before .before .before .before .before .before .before .args in
     let held = given .self in
     let after = drawn (held .state) (given .y) (lentOf (now (given .store)) (take (held .table) (now (given .table))) (take (held .normal) (now (given .normal))) (take (held .overlay) (now (given .overlay)))) (now (given .output)) in
-    asked-by held (line (given .y) (controlsOf (held .state .control) .width)) (call .draw .result .state) (call .draw .last .1 .1 .1 .1 .1 .1 .0) (told (call .draw .result .answer)) after
+    asked-by held (saysLine (given .y) (controlsOf (held .state .control) .width)) (call .draw .result .state) (call .draw .last .1 .1 .1 .1 .1 .1 .0) (answerOutcome (call .draw .result .answer)) after
     (c .listed .ensures) (c .before .before .before .with-state .ensures)
     (rw (sub-zero (held .table), sub-zero (held .normal), sub-zero (held .overlay)) at (call .draw .ensures))
-    (c .before .entry-of-line .ensures ∙ ap (λ (width : ℕ). entryOf (line (given .y) width) (told (call .draw .result .answer))) (c .before .before .width .ensures))
+    (c .before .entry-of .ensures ∙ ap (λ (width : ℕ). entryOf (saysLine (given .y) width) (answerOutcome (call .draw .result .answer))) (c .before .before .width .ensures))
 
 pub line-spec : {M : Type 1} → statement M
 line-spec =
@@ -86,7 +87,7 @@ line-spec =
     draw-requires
     with-state-requires
     width-requires
-    entry-of-line-requires
+    entry-of-requires
     listed-requires
     same-length
     returns)

@@ -1,9 +1,9 @@
--- `session_rooms::rooms_fit` meets its contract: each length in the order of the places. Assumes nothing.
+-- `session_rooms::rooms_check` meets its contract: each length in the order of the places. Assumes nothing.
 use mathlib.Core.Path.{refl}
 use borrow.Author.Tests.{eq-eqb, ne-eqb}
 use Rattle.session_rooms.specs.Rooms.{roomFaults}
-use Rattle.session_rooms.proofs.rooms_fit.Statement.{statement}
-use Rattle.session_rooms.proofs.rooms_fit.Tie as tie
+use Rattle.session_rooms.proofs.rooms_check.Statement.{statement}
+use Rattle.session_rooms.proofs.rooms_check.Tie as tie
 
 returns : tie.Need-returns
 unfolding roomFaults
@@ -29,5 +29,5 @@ returns-6 : tie.Need-returns-6
 unfolding roomFaults
 returns-6 c = simp (eq-eqb _ _ (c .before .before .before .before .if1 .left), eq-eqb _ _ (c .before .before .before .if2 .left), eq-eqb _ _ (c .before .before .if3 .left), eq-eqb _ _ (c .before .if4 .left), eq-eqb _ _ (c .if5 .left)) refl
 
-pub rooms-fit-spec : {M : Type 1} → statement M
-rooms-fit-spec = tie.close (tie.spec returns returns-2 returns-3 returns-4 returns-5 returns-6)
+pub rooms-check-spec : {M : Type 1} → statement M
+rooms-check-spec = tie.close (tie.spec returns returns-2 returns-3 returns-4 returns-5 returns-6)

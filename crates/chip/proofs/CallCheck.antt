@@ -25,12 +25,12 @@ GoesOn chip = tested chip ≡ ok tt
 
 module _ (state : State) (size : ℕ) where
   -- then the state keeps its rule, and the store has its length
-  pub fit-says : verdict (callFaults state size) ≡ ok tt → (goodState state ≡ true) × (size ≡ storeLength)
-  fit-says e = let clear = clear-verdict (callFaults state size) e in (not-false _ (clear .0), eqb-true _ _ (not-false _ (clear .1 .0)))
+  pub allowed-says : verdict (callFaults state size) ≡ ok tt → (goodState state ≡ true) × (size ≡ storeLength)
+  allowed-says e = let clear = clear-verdict (callFaults state size) e in (not-false _ (clear .0), eqb-true _ _ (not-false _ (clear .1 .0)))
 
   -- and that is all that it asks
-  pub says-fit : goodState state ≡ true → size ≡ storeLength → verdict (callFaults state size) ≡ ok tt
-  says-fit good right = verdict-clear (callFaults state size) (ap not good, (ap not (eq-eqb size storeLength right), tt))
+  pub says-allowed : goodState state ≡ true → size ≡ storeLength → verdict (callFaults state size) ≡ ok tt
+  says-allowed good right = verdict-clear (callFaults state size) (ap not good, (ap not (eq-eqb size storeLength right), tt))
 
 -- the first faults decide, else those behind them
 pub first-then : (faults others : List Fault) → verdict (faults ++ others) ≡ andThen (verdict faults) (λ passed. verdict others)

@@ -1,9 +1,9 @@
--- `line_setup::setup::Setup::lengths_fit` meets its contract: each length in the order of the places. Assumes nothing.
+-- `line_setup::setup::Setup::lengths_check` meets its contract: each length in the order of the places. Assumes nothing.
 use mathlib.Core.Path.{sym, _∙_}
 use borrow.Author.Needs.{needs}
 use Rattle.line_setup.proofs.Lengths.{store-wrong, table-wrong, normal-wrong, overlay-bad, output-short, lengths-right}
-use Rattle.line_setup.proofs.setup.Setup.lengths_fit.Statement.{statement}
-use Rattle.line_setup.proofs.setup.Setup.lengths_fit.Tie as tie
+use Rattle.line_setup.proofs.setup.Setup.lengths_check.Statement.{statement}
+use Rattle.line_setup.proofs.setup.Setup.lengths_check.Tie as tie
 
 returns : tie.Need-returns
 returns c = store-wrong _ (c .if1 .taken)
@@ -51,8 +51,8 @@ returns-6 c =
     lengths-right _ (table .before .if1 .left) (sym (table .table-too-long .ensures) ∙ rows .before .if2 .left) (cover .before .if3 .left ∙ rows .normal-length .ensures)
     (sym (cover .overlay-wrong .ensures) ∙ c .before .before .before .if4 .left) (c .if5 .left)
 
-pub lengths-fit-spec : {M : Type 1} → statement M
-lengths-fit-spec =
+pub lengths-check-spec : {M : Type 1} → statement M
+lengths-check-spec =
     tie.close
     (tie.spec
     returns

@@ -1,7 +1,7 @@
 -- `line_colour::entry::Entry::shown` meets its contract: format by format. Assumes nothing.
 use borrow.Author.Needs.{needs}
-use Rattle.line_colour.proofs.entry.Entry.shown.Statement.{statement}
-use Rattle.line_colour.proofs.entry.Entry.shown.Tie as tie
+use Rattle.line_colour.proofs.entry.WindowEntry.shown.Statement.{statement}
+use Rattle.line_colour.proofs.entry.WindowEntry.shown.Tie as tie
 
 enum-told : tie.Need-enum-told
 enum-told c = search needs
