@@ -80,7 +80,7 @@ impl State {
         if !self.good() {
             return Answer::Refused(Refusal::BadState);
         }
-        if words != 4963 {
+        if words != chip_registers::STORE_WORDS {
             return Answer::Refused(Refusal::StoreLength);
         }
         Answer::Done

@@ -8,6 +8,15 @@ ghost use Rattle.chip_registers.specs.Kept.{keptOfControl, keptOf, fits}
 ghost use Rattle.chip_registers.specs.Store.{storeStart, storeIndex};
 ghost use Rattle.chip_registers.specs.Access.{readOnly, waits};
 
+// How many words the store has.
+pub const STORE_WORDS: usize = 4963;
+
+// Where the gamma map starts in the store.
+pub const GAMMA_MAP_START: usize = 4640;
+
+// Where it ends: the word behind its last.
+pub const GAMMA_MAP_END: usize = 4896;
+
 // The blocks of registers, in the order of the table.
 pub enum Block {
     Control,

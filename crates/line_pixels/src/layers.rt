@@ -14,6 +14,8 @@ use crate::Screen;
 use crate::sampling::Sampling;
 use crate::store::stored;
 use chip_registers::Block;
+use chip_registers::GAMMA_MAP_END;
+use chip_registers::GAMMA_MAP_START;
 use chip_registers::Register;
 use line_colour::entry::Shown;
 use line_colour::entry::WindowEntry;
@@ -67,7 +69,10 @@ fn through_gamma(store: &[u32], skips: bool, word: u32) -> u32
     if skips {
         return word;
     }
-    let corrected = line_colour::gamma::corrected(&store[4640..4896], Rgb::of(word));
+    let corrected = line_colour::gamma::corrected(
+        &store[GAMMA_MAP_START..GAMMA_MAP_END],
+        Rgb::of(word),
+    );
     corrected.word()
 }
 

@@ -65,7 +65,7 @@ impl Setup {
         ensures { λ r. ⌜ answerOutcome r ≡ verdict (lengthFaults self) ⌝ }
     {
         let controls = self.controls;
-        if self.lengths.store != 4963 {
+        if self.lengths.store != chip_registers::STORE_WORDS {
             return Answer::Refused(Refusal::StoreLength);
         }
         if self.table_too_long() {

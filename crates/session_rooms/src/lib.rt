@@ -30,7 +30,7 @@ fn too_much_held(table: usize, normal: usize, overlay: usize) -> bool
 fn rooms_check(store: usize, table: usize, normal: usize, overlay: usize, output: usize) -> Answer
     ensures { λ r. ⌜ answerOutcome r ≡ verdict (roomFaults store table normal overlay output) ⌝ }
 {
-    if store != 4963 {
+    if store != chip_registers::STORE_WORDS {
         return Answer::Refused(Refusal::StoreLength);
     }
     if table != 65536 {
