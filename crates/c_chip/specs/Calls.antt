@@ -4,17 +4,16 @@ use mathlib.Core.List.{List}
 use Rattle.rules.specs.Rule.{Outcome}
 use Rattle.rules.specs.Faults.{Numbered}
 use Rattle.c_numbers.specs.Numbers.{refusalOf}
-use Rattle.c_numbers.specs.declared.Refused.{Refused}
 use Rattle.chip.specs.Call.{Chip}
 use Rattle.chip.specs.Write.{written}
 use Rattle.chip.specs.Read.{readBack}
 use Rattle.chip.specs.Dot.{dotted}
 use Rattle.chip.specs.Dots.{ran}
 use Rattle.chip.specs.declared.state.State.{State}
-use Rattle.chip.specs.declared.dots.Report.{Report}
+use Rattle.chip.specs.declared.report.Report.{Report}
 use Rattle.line.specs.Cells.{Lent}
 use Rattle.line.specs.Drawn.{drawn}
-use Rattle.c_chip.specs.Reports.{wordOf, reportOfDot, reportOfDots, inNumbers}
+use Rattle.c_chip.specs.Reports.{wordOf, reportOfDots, inNumbers}
 use Rattle.c_chip.specs.declared.calls.Written.{Written}
 use Rattle.c_chip.specs.declared.calls.ReadBack.{ReadBack}
 use Rattle.c_chip.specs.declared.calls.Dotted.{Dotted}
@@ -39,20 +38,20 @@ unfoldable pub readInNumbers : Chip → ℕ → ReadBack
 readInNumbers chip address = let all = readBack chip address in readAnswer (all .0 .0) (all .1)
 
 -- dots, one or many
-abbrev pub dotsAnswer : State → Refused → Report → Dotted
-dotsAnswer state refusal report = record { state = state; refusal = refusal; signals = inNumbers report }
+abbrev pub dotsAnswer : State → Outcome Numbered Report → Dotted
+dotsAnswer state answer = record { state = state; refusal = refusalOf answer; signals = inNumbers (reportOfDots answer) }
 
--- what a dot answers, and the words of the store after it
+-- what they answer, and the words of the store after them
+abbrev pub dotsInNumbers : Chip × Outcome Numbered Report → Dotted × List ℕ
+dotsInNumbers all = (dotsAnswer (all .0 .0) (all .1), all .0 .1)
+
+-- a dot
 unfoldable pub dottedInNumbers : Chip → Dotted × List ℕ
-dottedInNumbers chip =
-    let all = dotted chip in
-    (dotsAnswer (all .0 .0) (refusalOf (all .1)) (reportOfDot (all .1)), all .0 .1)
+dottedInNumbers chip = dotsInNumbers (dotted chip)
 
--- what a run of dots answers, and the words of the store after it
+-- a run of dots
 unfoldable pub ranInNumbers : Chip → ℕ → Dotted × List ℕ
-ranInNumbers chip count =
-    let all = ran chip count in
-    (dotsAnswer (all .0 .0) (refusalOf (all .1)) (reportOfDots (all .1)), all .0 .1)
+ranInNumbers chip count = dotsInNumbers (ran chip count)
 
 -- a line
 abbrev pub lineAnswer : State → Outcome Numbered (Unit {0}) → Drawn

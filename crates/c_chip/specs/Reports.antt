@@ -3,9 +3,8 @@ use Prim.Native.Nat.{ℕ}
 use Rattle.rules.specs.Rule.{Outcome, ok, refused}
 use Rattle.rules.specs.Faults.{Numbered}
 use Rattle.c_numbers.specs.Numbers.{yesNo}
-use Rattle.chip_timing.specs.declared.Signals.{Signals}
-use Rattle.chip.specs.declared.dots.Report.{Report}
-use Rattle.chip.specs.declared.dots.Report.the-variants.{Nothing, Last}
+use Rattle.chip.specs.declared.report.Report.{Report}
+use Rattle.chip.specs.declared.report.Report.the-variants.{Nothing, Last}
 use Rattle.c_chip.specs.declared.numbers.Reported.{Reported}
 
 -- the word that a read answers, or 0
@@ -13,12 +12,7 @@ abbrev pub wordOf : Outcome Numbered ℕ → ℕ
 wordOf (ok word) = word
 wordOf (refused refusal) = 0
 
--- what a dot reported
-abbrev pub reportOfDot : Outcome Numbered Signals → Report
-reportOfDot (ok signals) = Last signals
-reportOfDot (refused refusal) = Nothing
-
--- what a run of dots reported
+-- what dots reported, one or many
 abbrev pub reportOfDots : Outcome Numbered Report → Report
 reportOfDots (ok report) = report
 reportOfDots (refused refusal) = Nothing

@@ -6,10 +6,8 @@ ghost use Rattle.c_chip.specs.Calls.{writtenInNumbers, readInNumbers, do
 use crate::numbers::Reported;
 use crate::numbers::in_numbers;
 use crate::numbers::of_answer;
-use crate::numbers::of_dot;
 use crate::numbers::of_dots;
 use crate::numbers::of_read;
-use crate::numbers::report_of_dot;
 use crate::numbers::report_of_dots;
 use crate::numbers::word_of;
 use c_numbers::Refused;
@@ -97,8 +95,8 @@ pub extern "C" fn bulitampaw_dot(state: State, store: &mut [u32]) -> Dotted
     let next = dotted.state;
     Dotted {
         state: next,
-        refusal: of_dot(answer),
-        signals: in_numbers(report_of_dot(answer)),
+        refusal: of_dots(answer),
+        signals: in_numbers(report_of_dots(answer)),
     }
 }
 

@@ -3,14 +3,13 @@ ghost use mathlib.Core.Path.{_≡_};
 ghost use Rattle.refusals.specs.Refusal.{answerOutcome};
 ghost use Rattle.c_numbers.specs.Numbers.{refusalOf};
 ghost use Rattle.chip.specs.Read.{readOutcome};
-ghost use Rattle.chip.specs.Dot.{dotOutcome};
-ghost use Rattle.chip.specs.Dots.{dotsOutcome};
-ghost use Rattle.c_chip.specs.Reports.{wordOf, reportOfDot, reportOfDots, inNumbers};
+ghost use Rattle.chip.specs.Report.{dotsOutcome};
+ghost use Rattle.c_chip.specs.Reports.{wordOf, reportOfDots, inNumbers};
 use c_numbers::Refused;
 use c_numbers::nothing;
 use c_numbers::refused_by;
 use c_numbers::yes_no;
-use chip::dots::Report;
+use chip::report::Report;
 use refusals::Answer;
 
 // Whether a dot was made, and the signals of the last one, each 1 or 0.
@@ -42,23 +41,13 @@ pub(crate) fn of_read(answer: chip::read::ReadAnswer) -> Refused
     }
 }
 
-// Of a dot.
-pub(crate) fn of_dot(answer: chip::dot::DotAnswer) -> Refused
-    ensures { λ r. ⌜ r ≡ refusalOf (dotOutcome answer) ⌝ }
-{
-    match answer {
-        chip::dot::DotAnswer::Reported(_) => nothing(),
-        chip::dot::DotAnswer::Refused(refusal) => refused_by(refusal),
-    }
-}
-
-// Of a run of dots.
-pub(crate) fn of_dots(answer: chip::dots::DotsAnswer) -> Refused
+// Of dots, one or many.
+pub(crate) fn of_dots(answer: chip::report::DotsAnswer) -> Refused
     ensures { λ r. ⌜ r ≡ refusalOf (dotsOutcome answer) ⌝ }
 {
     match answer {
-        chip::dots::DotsAnswer::Reported(_) => nothing(),
-        chip::dots::DotsAnswer::Refused(refusal) => refused_by(refusal),
+        chip::report::DotsAnswer::Reported(_) => nothing(),
+        chip::report::DotsAnswer::Refused(refusal) => refused_by(refusal),
     }
 }
 
@@ -72,23 +61,13 @@ pub(crate) fn word_of(answer: chip::read::ReadAnswer) -> u32
     }
 }
 
-// What a dot reported.
-pub(crate) fn report_of_dot(answer: chip::dot::DotAnswer) -> Report
-    ensures { λ r. ⌜ r ≡ reportOfDot (dotOutcome answer) ⌝ }
-{
-    match answer {
-        chip::dot::DotAnswer::Reported(signals) => Report::Last(signals),
-        chip::dot::DotAnswer::Refused(_) => Report::Nothing,
-    }
-}
-
-// What a run of dots reported.
-pub(crate) fn report_of_dots(answer: chip::dots::DotsAnswer) -> Report
+// What dots reported, one or many.
+pub(crate) fn report_of_dots(answer: chip::report::DotsAnswer) -> Report
     ensures { λ r. ⌜ r ≡ reportOfDots (dotsOutcome answer) ⌝ }
 {
     match answer {
-        chip::dots::DotsAnswer::Reported(report) => report,
-        chip::dots::DotsAnswer::Refused(_) => Report::Nothing,
+        chip::report::DotsAnswer::Reported(report) => report,
+        chip::report::DotsAnswer::Refused(_) => Report::Nothing,
     }
 }
 

@@ -23,7 +23,7 @@ use Rattle.chip.specs.Dot.{signalsOf, drains, oldestApplied, moved, afte
 use Rattle.chip.specs.Dots.{afterDots, lastReport, ran}
 use Rattle.chip.specs.Inner.{walk}
 use Rattle.chip.specs.declared.state.State.{State}
-use Rattle.chip.specs.declared.dots.Report.the-variants.{Nothing, Last}
+use Rattle.chip.specs.declared.report.Report.the-variants.{Nothing, Last}
 use Rattle.chip.proofs.Good.{dot-length, dot-whole, dot-good, placed-good, dots-add}
 use Rattle.chip.proofs.CallCheck.{tested, GoesOn, passes, stops}
 
@@ -167,7 +167,7 @@ module _ (chip : Chip) where
   dot-unfit refusal e = stops chip _ (callFaults (chip .0) (length (chip .1))) refusal e
 
   -- neither
-  pub dot-done : GoesOn chip → dotted chip ≡ (afterDot chip, ok (signalsOf (chip .0)))
+  pub dot-done : GoesOn chip → dotted chip ≡ (afterDot chip, ok (Last (signalsOf (chip .0))))
   unfolding dotted
   dot-done fine = passes chip _ (callFaults (chip .0) (length (chip .1))) fine
 

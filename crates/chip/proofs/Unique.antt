@@ -9,22 +9,17 @@ use Rattle.rules.proofs.Unique.{by-equation, by-saying, by-outcome}
 use Rattle.refusals.specs.declared.Answer.{Answer}
 use Rattle.refusals.specs.Refusal.{answerOutcome}
 use Rattle.refusals.proofs.Known.{refusalOf, known, answerOf, answer-back}
-use Rattle.chip_timing.specs.declared.Signals.{Signals}
 use Rattle.chip.specs.Read as read-spec
-use Rattle.chip.specs.Dot as dot-spec
-use Rattle.chip.specs.Dots as dots-spec
+use Rattle.chip.specs.Report.{dotsOutcome}
 use Rattle.chip.specs.declared.state.State.{State}
 use Rattle.chip.specs.declared.write.Written.{Written}
 use Rattle.chip.specs.declared.read.ReadAnswer.{ReadAnswer}
 use Rattle.chip.specs.declared.read.ReadAnswer.the-variants.{Word, Refused as ReadRefused}
 use Rattle.chip.specs.declared.read.ReadBack.{ReadBack}
-use Rattle.chip.specs.declared.dot.DotAnswer.{DotAnswer}
-use Rattle.chip.specs.declared.dot.DotAnswer.the-variants.{Reported as DotReported, Refused as DotRefused}
-use Rattle.chip.specs.declared.dot.Dotted.{Dotted}
-use Rattle.chip.specs.declared.dots.Report.{Report}
-use Rattle.chip.specs.declared.dots.DotsAnswer.{DotsAnswer}
-use Rattle.chip.specs.declared.dots.DotsAnswer.the-variants.{Reported as DotsReported, Refused as DotsRefused}
-use Rattle.chip.specs.declared.dots.Ran.{Ran}
+use Rattle.chip.specs.declared.report.Report.{Report}
+use Rattle.chip.specs.declared.report.DotsAnswer.{DotsAnswer}
+use Rattle.chip.specs.declared.report.DotsAnswer.the-variants.{Reported, Refused as DotsRefused}
+use Rattle.chip.specs.declared.report.Dotted.{Dotted}
 use Rattle.chip.proofs.state.State.new.Reads as new
 use Rattle.chip.proofs.state.State.good.Reads as good
 use Rattle.chip.proofs.state.State.write.Reads as write
@@ -75,38 +70,28 @@ read-unique =
     (r .state) (r′ .state) (r .answer) (r′ .answer))
     _ _ _
 
--- ---- dot
-
-abbrev dot-answer : Outcome Numbered Signals → DotAnswer
-dot-answer (ok signals) = DotReported signals
-dot-answer (refused refusal) = DotRefused (refusalOf refusal)
-
-dot-back : (answer : DotAnswer) → dot-answer (dot-spec.dotOutcome answer) ≡ answer
-dot-back (DotReported signals) = refl
-dot-back (DotRefused refusal) = ap DotRefused (known refusal)
-
-pub dot-unique : OneOutcome (λ k exit. now (exit .1 .0)) dot.Post
-dot-unique =
-    by-outcome (λ k (r : Dotted). r .state) (λ k (r : Dotted). dot-spec.dotOutcome (r .answer))
-    (λ k (r : Dotted) (r′ : Dotted).
-    same-result dot-spec.dotOutcome dot-answer dot-back (λ (state : State) (answer : DotAnswer). record { state = state; answer = answer })
-    (r .state) (r′ .state) (r .answer) (r′ .answer))
-    _ (λ k exit. now (exit .1 .0)) _
-
 -- ---- dots
 
+-- the answer of which an outcome is said
 abbrev dots-answer : Outcome Numbered Report → DotsAnswer
-dots-answer (ok report) = DotsReported report
+dots-answer (ok report) = Reported report
 dots-answer (refused refusal) = DotsRefused (refusalOf refusal)
 
-dots-back : (answer : DotsAnswer) → dots-answer (dots-spec.dotsOutcome answer) ≡ answer
-dots-back (DotsReported report) = refl
+-- dots' answer is known by what it says
+dots-back : (answer : DotsAnswer) → dots-answer (dotsOutcome answer) ≡ answer
+dots-back (Reported report) = refl
 dots-back (DotsRefused refusal) = ap DotsRefused (known refusal)
 
+-- the state and what the answer says make the whole result of dots
+same-dots : (r r′ : Dotted) → r .state ≡ r′ .state → dotsOutcome (r .answer) ≡ dotsOutcome (r′ .answer) → r ≡ r′
+same-dots r r′ =
+    same-result dotsOutcome dots-answer dots-back (λ (state : State) (answer : DotsAnswer). record { state = state; answer = answer })
+    (r .state) (r′ .state) (r .answer) (r′ .answer)
+
+-- a dot has one outcome
+pub dot-unique : OneOutcome (λ k exit. now (exit .1 .0)) dot.Post
+dot-unique = by-outcome (λ k (r : Dotted). r .state) (λ k (r : Dotted). dotsOutcome (r .answer)) (λ k. same-dots) _ (λ k exit. now (exit .1 .0)) _
+
+-- so many dots have one outcome
 pub dots-unique : OneOutcome (λ k exit. now (exit .1 .0)) dots.Post
-dots-unique =
-    by-outcome (λ k (r : Ran). r .state) (λ k (r : Ran). dots-spec.dotsOutcome (r .answer))
-    (λ k (r : Ran) (r′ : Ran).
-    same-result dots-spec.dotsOutcome dots-answer dots-back (λ (state : State) (answer : DotsAnswer). record { state = state; answer = answer })
-    (r .state) (r′ .state) (r .answer) (r′ .answer))
-    _ (λ k exit. now (exit .1 .0)) _
+dots-unique = by-outcome (λ k (r : Dotted). r .state) (λ k (r : Dotted). dotsOutcome (r .answer)) (λ k. same-dots) _ (λ k exit. now (exit .1 .0)) _

@@ -2,9 +2,8 @@
 use mathlib.Core.Bool.{Bool, cond, _&&_}
 use lib.Dec.{ltb}
 use lib.ListN.{length, set}
-use Rattle.rules.specs.Rule.{Outcome, ok, refused}
+use Rattle.rules.specs.Rule.{Outcome}
 use Rattle.rules.specs.Faults.{Numbered, unless}
-use Rattle.refusals.specs.Refusal.{numbered}
 use Rattle.chip_timing.specs.Signals.{signalsAt}
 use Rattle.chip_timing.specs.Move.{nextPosition}
 use Rattle.chip_timing.specs.declared.Signals.{Signals}
@@ -13,13 +12,8 @@ use Rattle.chip_queue.specs.Queue.{oldest, popped}
 use Rattle.chip.specs.State.{controlWord, windowsOf, withPosition, withQueue}
 use Rattle.chip.specs.Call.{Chip, callFaults}
 use Rattle.chip.specs.declared.state.State.{State}
-use Rattle.chip.specs.declared.dot.DotAnswer.{DotAnswer}
-use Rattle.chip.specs.declared.dot.DotAnswer.the-variants.{Reported, Refused}
-
--- what the answer says: the signals, or a refusal's number and values
-abbrev pub dotOutcome : DotAnswer → Outcome Numbered Signals
-dotOutcome (Reported signals) = ok signals
-dotOutcome (Refused refusal) = refused (numbered refusal)
+use Rattle.chip.specs.declared.report.Report.{Report}
+use Rattle.chip.specs.declared.report.Report.the-variants.{Last}
 
 -- the signals at the position
 abbrev pub signalsOf : State → Signals
@@ -48,5 +42,5 @@ unfoldable pub afterDot : Chip → Chip
 afterDot chip = (moved (drained chip .0), drained chip .1)
 
 -- what a dot leaves and answers; it is refused by 11, then 5
-unfoldable pub dotted : Chip → Chip × Outcome Numbered Signals
-dotted chip = unless (callFaults (chip .0) (length (chip .1))) chip (afterDot chip, signalsOf (chip .0))
+unfoldable pub dotted : Chip → Chip × Outcome Numbered Report
+dotted chip = unless (callFaults (chip .0) (length (chip .1))) chip (afterDot chip, Last (signalsOf (chip .0)))

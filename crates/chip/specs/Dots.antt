@@ -1,20 +1,12 @@
 -- Many dots: one after the other, checked once.
 use Prim.Native.Nat.{ℕ, zero, suc}
 use lib.ListN.{length}
-use Rattle.rules.specs.Rule.{Outcome, ok, refused}
+use Rattle.rules.specs.Rule.{Outcome}
 use Rattle.rules.specs.Faults.{Numbered, unless}
-use Rattle.refusals.specs.Refusal.{numbered}
 use Rattle.chip.specs.Call.{Chip, callFaults}
 use Rattle.chip.specs.Dot.{signalsOf, afterDot}
-use Rattle.chip.specs.declared.dots.Report.{Report}
-use Rattle.chip.specs.declared.dots.Report.the-variants.{Nothing, Last}
-use Rattle.chip.specs.declared.dots.DotsAnswer.{DotsAnswer}
-use Rattle.chip.specs.declared.dots.DotsAnswer.the-variants.{Reported, Refused}
-
--- what the answer says: what the last dot reported, or a refusal's number and values
-abbrev pub dotsOutcome : DotsAnswer → Outcome Numbered Report
-dotsOutcome (Reported report) = ok report
-dotsOutcome (Refused refusal) = refused (numbered refusal)
+use Rattle.chip.specs.declared.report.Report.{Report}
+use Rattle.chip.specs.declared.report.Report.the-variants.{Nothing, Last}
 
 -- what so many dots leave
 unfoldable pub afterDots : ℕ → Chip → Chip

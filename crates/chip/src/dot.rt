@@ -6,23 +6,14 @@ ghost use lib.Dec.{ltb};
 ghost use lib.ListN.{length};
 ghost use Rattle.chip_registers.specs.Store.{storeLength};
 ghost use Rattle.chip.specs.State.{goodState};
-ghost use Rattle.chip.specs.Dot.{dotOutcome, signalsOf, oldestApplied, moved, afterDot, dotted};
+ghost use Rattle.chip.specs.Report.{dotsOutcome};
+ghost use Rattle.chip.specs.Dot.{signalsOf, oldestApplied, moved, afterDot, dotted};
+use crate::report::DotsAnswer;
+use crate::report::Dotted;
+use crate::report::Report;
 use crate::state::State;
 use chip_timing::Signals;
 use refusals::Answer;
-use refusals::Refusal;
-
-// What a dot answers.
-pub enum DotAnswer {
-    Reported(Signals),
-    Refused(Refusal),
-}
-
-// The state that a dot hands back, and its answer.
-pub struct Dotted {
-    pub state: State,
-    pub answer: DotAnswer,
-}
 
 // Whether a dot applies a write: it is blanked and something waits.
 fn drains(blank: bool, waiting: u32) -> bool
@@ -75,19 +66,19 @@ impl State {
 
     // One dot.
     pub fn dot(self, store: &mut [u32]) -> Dotted
-        ensures { λ r. ⌜ ((r .state, now (store .exit)), dotOutcome (r .answer)) ≡ dotted (self, now (store .entry)) ⌝ }
+        ensures { λ r. ⌜ ((r .state, now (store .exit)), dotsOutcome (r .answer)) ≡ dotted (self, now (store .entry)) ⌝ }
     {
         let allowed = self.call_check(store.len());
         if let Answer::Refused(refusal) = allowed {
             return Dotted {
                 state: self,
-                answer: DotAnswer::Refused(refusal),
+                answer: DotsAnswer::Refused(refusal),
             };
         }
         let signals = self.signals();
         Dotted {
             state: self.step(store, signals.blank),
-            answer: DotAnswer::Reported(signals),
+            answer: DotsAnswer::Reported(Report::Last(signals)),
         }
     }
 }

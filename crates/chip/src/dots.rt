@@ -4,32 +4,16 @@ ghost use mathlib.Core.Bool.{true};
 ghost use lib.ListN.{length};
 ghost use Rattle.chip_registers.specs.Store.{storeLength};
 ghost use Rattle.chip.specs.State.{goodState, withPosition};
-ghost use Rattle.chip.specs.Dots.{dotsOutcome, afterDots, ran};
+ghost use Rattle.chip.specs.Report.{dotsOutcome};
+ghost use Rattle.chip.specs.Dots.{afterDots, ran};
 ghost use Rattle.chip.specs.Inner.{walk};
+use crate::report::DotsAnswer;
+use crate::report::Dotted;
+use crate::report::Report;
 use crate::state::State;
 use chip_timing::Position;
-use chip_timing::Signals;
 use chip_timing::Walk;
 use refusals::Answer;
-use refusals::Refusal;
-
-// What the last of some dots reported; none where there was no dot.
-pub enum Report {
-    Nothing,
-    Last(Signals),
-}
-
-// What a run of dots answers.
-pub enum DotsAnswer {
-    Reported(Report),
-    Refused(Refusal),
-}
-
-// The state that a run of dots hands back, and its answer.
-pub struct Ran {
-    pub state: State,
-    pub answer: DotsAnswer,
-}
 
 impl State {
     // The state at another position.
@@ -75,25 +59,25 @@ impl State {
     }
 
     // So many dots.
-    pub fn dots(self, store: &mut [u32], count: u32) -> Ran
+    pub fn dots(self, store: &mut [u32], count: u32) -> Dotted
         ensures { λ r. ⌜ ((r .state, now (store .exit)), dotsOutcome (r .answer)) ≡ ran (self, now (store .entry)) count ⌝ }
     {
         let allowed = self.call_check(store.len());
         if let Answer::Refused(refusal) = allowed {
-            return Ran {
+            return Dotted {
                 state: self,
                 answer: DotsAnswer::Refused(refusal),
             };
         }
         if count == 0 {
-            return Ran {
+            return Dotted {
                 state: self,
                 answer: DotsAnswer::Reported(Report::Nothing),
             };
         }
         let before = self.steps(store, count - 1);
         let signals = before.signals();
-        Ran {
+        Dotted {
             state: before.step(store, signals.blank),
             answer: DotsAnswer::Reported(Report::Last(signals)),
         }

@@ -2,5 +2,6 @@
 pub mod dot;
 pub mod dots;
 pub mod read;
+pub mod report;
 pub mod state;
 pub mod write;

@@ -5,7 +5,6 @@ use mathlib.Core.List.{List, [], _∷_, _++_}
 use lib.ListN.{replicate}
 use Rattle.rules.specs.Rule.{Outcome, ok, refused}
 use Rattle.rules.specs.Faults.{Numbered}
-use Rattle.chip_timing.specs.declared.Signals.{Signals}
 use Rattle.chip_registers.specs.declared.Register.{Register}
 use Rattle.chip_registers.specs.declared.Named.the-variants.{Is}
 use Rattle.chip_queue.specs.declared.Waiting.{Waiting}
@@ -14,6 +13,8 @@ use Rattle.chip.specs.Call.{Chip}
 use Rattle.chip.specs.Write.{put, written}
 use Rattle.chip.specs.Dot.{signalsOf, afterDot, dotted}
 use Rattle.chip.specs.Dots.{ran}
+use Rattle.chip.specs.declared.report.Report.{Report}
+use Rattle.chip.specs.declared.report.Report.the-variants.{Last}
 use Rattle.chip.proofs.Good.{put-whole, dot-whole, dots-whole}
 use Rattle.chip.proofs.CallCheck.{tested, GoesOn}
 use Rattle.chip.proofs.Runs.{dot-unfit, dot-done, dots-unfit, dots-done}
@@ -66,7 +67,7 @@ pub record Law (Holds : Chip → List (List Waiting) → List Waiting → Chip �
       → Holds first dark took middle → Holds middle dark′ took′ last → Holds first (dark ++ dark′) (took ++ took′) last
   pub puts : (chip : Chip) (address value : ℕ) (register : Register) → HasArrays (chip .0) → Put chip address value register
       → Holds chip [] (colourWrite (Is register) value) (put chip register value)
-  pub step : (chip : Chip) → HasArrays (chip .0) → GoesOn chip → Holds chip (blankedBy (ok (signalsOf (chip .0))) (chip .0 .queue)) [] (afterDot chip)
+  pub step : (chip : Chip) → HasArrays (chip .0) → GoesOn chip → Holds chip (blankedBy (ok (Last (signalsOf (chip .0)))) (chip .0 .queue)) [] (afterDot chip)
 
 module _ (Holds : Chip → List (List Waiting) → List Waiting → Chip → Type 0) (law : Law Holds) where
   -- it holds of a write
@@ -76,7 +77,7 @@ module _ (Holds : Chip → List (List Waiting) → List Waiting → Chip → Typ
   law-write chip address value whole (into register p) = rw (p .left, p .taken) (law .puts chip address value register whole p)
 
   -- it holds of a dot that left this and answered so
-  abbrev Dotted : Chip → Chip × Outcome Numbered Signals → Type 0
+  abbrev Dotted : Chip → Chip × Outcome Numbered Report → Type 0
   Dotted chip all = Holds chip (blankedBy (all .1) (chip .0 .queue)) [] (all .0)
 
   -- it holds of a dot

@@ -4,13 +4,10 @@ use mathlib.Core.Path.{_≡_, refl, ap, sym, _∙_}
 use lib.ListN.{length, replicate}
 use Rattle.rules.specs.Rule.{Outcome, ok, refused}
 use Rattle.rules.specs.Faults.{Numbered}
-use Rattle.chip_timing.specs.declared.Signals.{Signals}
 use Rattle.chip.specs.State.{HasArrays}
 use Rattle.chip.specs.Call.{Chip}
 use Rattle.chip.specs.Dot.{afterDot, dotted}
 use Rattle.chip.specs.Dots.{afterDots, lastReport, ran}
-use Rattle.chip.specs.declared.dots.Report.{Report}
-use Rattle.chip.specs.declared.dots.Report.the-variants.{Last}
 use Rattle.chip.proofs.Good.{dot-length, dot-whole, dot-good, dots-length, dots-good}
 use Rattle.chip.proofs.CallCheck.{tested, GoesOn, allowed-says, says-allowed}
 use Rattle.chip.proofs.Runs.{dot-unfit, dot-done, dots-unfit, dots-done}
@@ -45,22 +42,17 @@ dots-as-dots chip count whole = by (tested chip) refl
     by (ok _) on = ap (λ all. all .0) (dots-done chip count on) ∙ sym (dots-on count chip whole on)
     by (refused refusal) off = ap (λ all. all .0) (dots-unfit chip count refusal off) ∙ sym (dots-off count chip refusal off)
 
--- what a dot answers, as a run that ends with it answers
-abbrev lastOf : Outcome Numbered Signals → Outcome Numbered Report
-lastOf (ok signals) = ok (Last signals)
-lastOf (refused refusal) = refused refusal
-
 -- so many dots at once answer what the last of so many single dots answers, refused or not
-pub dots-answer : (chip : Chip) (count : ℕ) → HasArrays (chip .0) → ran chip (suc count) .1 ≡ lastOf (dotted (end chip (replicate count dot)) .1)
+pub dots-answer : (chip : Chip) (count : ℕ) → HasArrays (chip .0) → ran chip (suc count) .1 ≡ dotted (end chip (replicate count dot)) .1
 unfolding lastReport
 dots-answer chip count whole = by (tested chip) refl
   where
-    by : (test : Outcome Numbered (Unit {0})) → tested chip ≡ test → ran chip (suc count) .1 ≡ lastOf (dotted (end chip (replicate count dot)) .1)
+    by : (test : Outcome Numbered (Unit {0})) → tested chip ≡ test → ran chip (suc count) .1 ≡ dotted (end chip (replicate count dot)) .1
     by (ok _) on =
         let said = allowed-says (chip .0) (length (chip .1)) on in
         let there : GoesOn (afterDots count chip) = says-allowed (afterDots count chip .0) (length (afterDots count chip .1)) (dots-good count chip whole (said .0)) (dots-length count chip ∙ said .1) in
         ap (λ all. all .1) (dots-done chip (suc count) on)
-        ∙ sym (ap (λ (c : Chip). lastOf (dotted c .1)) (dots-on count chip whole on) ∙ ap (λ (all : Chip × Outcome Numbered Signals). lastOf (all .1)) (dot-done (afterDots count chip) there))
+        ∙ sym (ap (λ (c : Chip). dotted c .1) (dots-on count chip whole on) ∙ ap (λ all. all .1) (dot-done (afterDots count chip) there))
     by (refused refusal) off =
         ap (λ all. all .1) (dots-unfit chip (suc count) refusal off)
-        ∙ sym (ap (λ (c : Chip). lastOf (dotted c .1)) (dots-off count chip refusal off) ∙ ap (λ (all : Chip × Outcome Numbered Signals). lastOf (all .1)) (dot-unfit chip refusal off))
+        ∙ sym (ap (λ (c : Chip). dotted c .1) (dots-off count chip refusal off) ∙ ap (λ all. all .1) (dot-unfit chip refusal off))

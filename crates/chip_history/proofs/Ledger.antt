@@ -22,6 +22,7 @@ use Rattle.chip.specs.State.{fresh, goodState, HasArrays}
 use Rattle.chip.specs.Call.{Chip}
 use Rattle.chip.specs.Write.{putIn}
 use Rattle.chip.specs.Dot.{signalsOf, drains, oldestApplied, afterDot}
+use Rattle.chip.specs.declared.report.Report.the-variants.{Last}
 use Rattle.chip.proofs.Good.{good-says, not-full, fresh-whole, fresh-good}
 use Rattle.chip.proofs.CallCheck.{allowed-says}
 use Rattle.chip_history.specs.Calls.{Call, end}
@@ -68,7 +69,7 @@ one-or-none true some = refl
 one-or-none false some = refl
 
 -- a dot that reported blank counts as one, whether or not something waits, and no other dot counts
-pub blank-counts : (signals : Signals) (queue : Queue) → length (blankedBy (ok signals) queue) ≡ cond (signals .blank) 1 0
+pub blank-counts : (signals : Signals) (queue : Queue) → length (blankedBy (ok (Last signals)) queue) ≡ cond (signals .blank) 1 0
 blank-counts signals queue = one-or-none (signals .blank) (front queue)
 
 -- ---- every sequence

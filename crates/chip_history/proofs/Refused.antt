@@ -18,6 +18,7 @@ use Rattle.chip.specs.Write.{registerFaults, addressFaults, writeFaults, putNam
 use Rattle.chip.specs.Read.{addressShows, nameFaults, readFaults, readBack}
 use Rattle.chip.specs.Dot.{signalsOf, afterDot, dotted}
 use Rattle.chip.specs.Dots.{afterDots, lastReport, ran}
+use Rattle.chip.specs.declared.report.Report.the-variants.{Last}
 use Rattle.chip_history.specs.Calls.{Call, write, read, dot, dots, line, leftBy, faultsOf, RefusedBy}
 
 -- a call is refused exactly by the first of its faults that holds
@@ -25,7 +26,7 @@ pub refused-exactly : (chip : Chip) (call : Call) (refusal : Numbered) → Refus
 unfolding written readBack dotted ran
 refused-exactly chip (write address value) refusal e = refused-first chip (putNamed chip (named address) value, tt) (writeFaults chip address value) refusal e
 refused-exactly chip (read address) refusal e = refused-first chip (chip, addressShows chip (named address)) (readFaults chip address) refusal e
-refused-exactly chip dot refusal e = refused-first chip (afterDot chip, signalsOf (chip .0)) (callFaults (chip .0) (length (chip .1))) refusal e
+refused-exactly chip dot refusal e = refused-first chip (afterDot chip, Last (signalsOf (chip .0))) (callFaults (chip .0) (length (chip .1))) refusal e
 refused-exactly chip (dots count) refusal e = refused-first chip (afterDots count chip, lastReport count chip) (callFaults (chip .0) (length (chip .1))) refusal e
 refused-exactly chip line refusal e = absurd e
 
@@ -38,7 +39,7 @@ exactly-refused chip (write address value) refusal real f =
 exactly-refused chip (read address) refusal real f =
     let e = first-holds chip (chip, addressShows chip (named address)) (readFaults chip address) refusal f in (ap (λ all. all .1) e, ap (λ all. all .0) e)
 exactly-refused chip dot refusal real f =
-    let e = first-holds chip (afterDot chip, signalsOf (chip .0)) (callFaults (chip .0) (length (chip .1))) refusal f in (ap (λ all. all .1) e, ap (λ all. all .0) e)
+    let e = first-holds chip (afterDot chip, Last (signalsOf (chip .0))) (callFaults (chip .0) (length (chip .1))) refusal f in (ap (λ all. all .1) e, ap (λ all. all .0) e)
 exactly-refused chip (dots count) refusal real f =
     let e = first-holds chip (afterDots count chip, lastReport count chip) (callFaults (chip .0) (length (chip .1))) refusal f in (ap (λ all. all .1) e, ap (λ all. all .0) e)
 exactly-refused chip line refusal real f = absurd (real refl)
@@ -111,7 +112,7 @@ module _ (chip : Chip) (good : goodState (chip .0) ≡ true) where
       (avoids-11 (nameFaults (named address) (addressPlace address)) (read-avoids (named address) (addressPlace address)))
       refusal e
   good-not-11 dot refusal e =
-      avoids-all chip (afterDot chip, signalsOf (chip .0)) (callFaults (chip .0) (length (chip .1))) 11 (avoids-11 [] tt) refusal e
+      avoids-all chip (afterDot chip, Last (signalsOf (chip .0))) (callFaults (chip .0) (length (chip .1))) 11 (avoids-11 [] tt) refusal e
   good-not-11 (dots count) refusal e =
       avoids-all chip (afterDots count chip, lastReport count chip) (callFaults (chip .0) (length (chip .1))) 11 (avoids-11 [] tt) refusal e
   good-not-11 line refusal e = absurd e

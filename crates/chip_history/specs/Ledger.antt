@@ -6,7 +6,6 @@ use lib.Dec.{ltb, eqb}
 use Rattle.rules.specs.Rule.{Outcome, ok, refused}
 use Rattle.rules.specs.Lists.{joined}
 use Rattle.rules.specs.Faults.{Numbered}
-use Rattle.chip_timing.specs.declared.Signals.{Signals}
 use Rattle.chip_registers.specs.Named.{named}
 use Rattle.chip_registers.specs.Access.{waits}
 use Rattle.chip_registers.specs.declared.Named.{Named}
@@ -18,6 +17,8 @@ use Rattle.chip_queue.specs.declared.Queue.{Queue}
 use Rattle.chip.specs.Call.{Chip}
 use Rattle.chip.specs.Write.{written}
 use Rattle.chip.specs.Dot.{dotted}
+use Rattle.chip.specs.declared.report.Report.{Report}
+use Rattle.chip.specs.declared.report.Report.the-variants.{Nothing as NoReport, Last}
 use Rattle.chip_history.specs.Calls.{Call, write, read, dot, dots, line, leftBy}
 
 -- ---- accepted
@@ -52,8 +53,9 @@ abbrev pub front : Queue → List Waiting
 front queue = cond (ltb 0 (queue .waiting)) (oldest queue ∷ []) []
 
 -- for a dot that reported blank one list, of what it applies: the oldest write, or nothing where nothing waits; for any other dot no list
-abbrev pub blankedBy : Outcome Numbered Signals → Queue → List (List Waiting)
-blankedBy (ok signals) queue = cond (signals .blank) (front queue ∷ []) []
+abbrev pub blankedBy : Outcome Numbered Report → Queue → List (List Waiting)
+blankedBy (ok NoReport) queue = []
+blankedBy (ok (Last signals)) queue = cond (signals .blank) (front queue ∷ []) []
 blankedBy (refused refusal) queue = []
 
 -- what each blanked dot applies, of so many dots

@@ -11,7 +11,7 @@ use Rattle.chip.specs.Call.{Chip}
 use Rattle.chip.specs.Write.{written}
 use Rattle.chip.specs.Dots.{ran}
 use Rattle.chip.specs.declared.state.State.{State}
-use Rattle.chip.specs.declared.dots.Report.{Report}
+use Rattle.chip.specs.declared.report.Report.{Report}
 use Rattle.session_records.specs.Parts.{bodyOf}
 use Rattle.session_records.specs.RecordAt.{recordAt}
 use Rattle.session_records.specs.declared.record.Record.{Record}

@@ -5,7 +5,7 @@ ghost use lib.ListN.{take};
 ghost use Rattle.refusals.specs.Refusal.{answerOutcome};
 ghost use Rattle.chip.specs.Write.{written};
 ghost use Rattle.chip.specs.Dots.{ran};
-ghost use Rattle.chip.specs.Dots.{dotsOutcome};
+ghost use Rattle.chip.specs.Report.{dotsOutcome};
 ghost use Rattle.session_listing.specs.Text.{entrySays, saysLine};
 ghost use Rattle.session_listing.specs.Text.{saysOk};
 ghost use Rattle.session_answers.specs.Status.{stepOutcome};
@@ -42,12 +42,12 @@ fn entry_of(answer: Answer, done: ListingEntry) -> ListingEntry
 }
 
 // The entry of some dots.
-fn entry_of_dots(answer: chip::dots::DotsAnswer, at: Position) -> ListingEntry
+fn entry_of_dots(answer: chip::report::DotsAnswer, at: Position) -> ListingEntry
     ensures { λ r. ⌜ entrySays r ≡ entryOf (atPosition at) (dotsOutcome answer) ⌝ }
 {
     match answer {
-        chip::dots::DotsAnswer::Reported(_) => ListingEntry::At { x: at.x, y: at.y },
-        chip::dots::DotsAnswer::Refused(refusal) => ListingEntry::Refused(refusal),
+        chip::report::DotsAnswer::Reported(_) => ListingEntry::At { x: at.x, y: at.y },
+        chip::report::DotsAnswer::Refused(refusal) => ListingEntry::Refused(refusal),
     }
 }
 

@@ -8,7 +8,7 @@ use Rattle.refusals.specs.Refusal.{numbered}
 use Rattle.refusals.specs.declared.Refusal.the-variants.{StoreLength, TableLength, NormalLength, OverlayLength, OutputLength, BadState}
 use Rattle.chip.specs.Write.{written}
 use Rattle.chip.specs.Dots.{ran}
-use Rattle.chip.specs.declared.dots.Report.{Report}
+use Rattle.chip.specs.declared.report.Report.{Report}
 use Rattle.session_records.specs.declared.record.Record.the-variants.{Write, Dots, Line}
 use Rattle.session_listing.specs.Text as entry
 use Rattle.session_answers.specs.Status.{listed}

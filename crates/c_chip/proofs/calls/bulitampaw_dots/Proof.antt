@@ -1,13 +1,7 @@
 -- `c_chip::calls::bulitampaw_dots` meets its contract: the chip's answer in numbers. Assumes nothing.
 use mathlib.Core.Path.{ap}
 use borrow.Author.Needs.{needs}
-use Rattle.rules.specs.Rule.{Outcome}
-use Rattle.rules.specs.Faults.{Numbered}
-use Rattle.c_numbers.specs.Numbers.{refusalOf}
-use Rattle.chip.specs.Call.{Chip}
-use Rattle.chip.specs.declared.dots.Report.{Report}
-use Rattle.c_chip.specs.Reports.{reportOfDots}
-use Rattle.c_chip.specs.Calls.{dotsAnswer, ranInNumbers}
+use Rattle.c_chip.specs.Calls.{dotsInNumbers, ranInNumbers}
 use Rattle.c_chip.proofs.calls.bulitampaw_dots.Statement.{statement}
 use Rattle.c_chip.proofs.calls.bulitampaw_dots.Tie as tie
 
@@ -30,7 +24,7 @@ returns : tie.Need-returns
 unfolding ranInNumbers
 returns c =
     rw (c .in-numbers .ensures, c .before .report-of-dots .ensures, c .before .before .of-dots .ensures)
-    (ap (λ (all : Chip × Outcome Numbered Report). (dotsAnswer (all .0 .0) (refusalOf (all .1)) (reportOfDots (all .1)), all .0 .1)) (c .before .before .before .before .before .before .dots .ensures))
+    (ap dotsInNumbers (c .before .before .before .before .before .before .dots .ensures))
 
 pub bulitampaw-dots-spec : {M : Type 1} → statement M
 bulitampaw-dots-spec =

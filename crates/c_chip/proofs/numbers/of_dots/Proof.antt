@@ -1,9 +1,9 @@
--- `c_chip::numbers::of_dots` meets its contract: what a run of dots is refused by. Assumes nothing.
+-- `c_chip::numbers::of_dots` meets its contract: what dots are refused by. Assumes nothing.
 use mathlib.Core.Path.{ap, sym, _∙_}
 use borrow.Author.Needs.{needs}
 use Rattle.c_numbers.specs.Numbers.{refusalOf}
-use Rattle.chip.specs.Dots.{dotsOutcome}
-use Rattle.chip.specs.declared.dots.DotsAnswer.{DotsAnswer}
+use Rattle.chip.specs.Report.{dotsOutcome}
+use Rattle.chip.specs.declared.report.DotsAnswer.{DotsAnswer}
 use Rattle.c_chip.proofs.numbers.of_dots.Statement.{statement}
 use Rattle.c_chip.proofs.numbers.of_dots.Tie as tie
 

@@ -1,8 +1,8 @@
 -- `session::acts::entry_of_dots` meets its contract, case by case. Assumes nothing.
 use mathlib.Core.Path.{ap, sym}
 use borrow.Author.Needs.{needs}
-use Rattle.chip.specs.Dots.{dotsOutcome}
-use Rattle.chip.specs.declared.dots.DotsAnswer.{DotsAnswer}
+use Rattle.chip.specs.Report.{dotsOutcome}
+use Rattle.chip.specs.declared.report.DotsAnswer.{DotsAnswer}
 use Rattle.session.specs.Record.{entryOf, atPosition}
 use Rattle.session.proofs.acts.entry_of_dots.Statement.{statement}
 use Rattle.session.proofs.acts.entry_of_dots.Tie as tie

@@ -6,6 +6,7 @@ use Rattle.refusals.specs.Refusal.{answerOutcome}
 use Rattle.chip_timing.specs.declared.Signals.{Signals}
 use Rattle.chip.specs.Call.{Chip}
 use Rattle.chip.specs.Dot.{afterDot}
+use Rattle.chip.specs.declared.report.Report.the-variants.{Last}
 use Rattle.chip.proofs.CallCheck.{allowed-says}
 use Rattle.chip.proofs.Runs.{dot-unfit, dot-done}
 use Rattle.chip.proofs.state.State.dot.Statement.{statement}
@@ -45,8 +46,8 @@ returns-2 c =
     let e = g .before in
     let f = e .before .before in
     let chip : Chip = (f .before .before .args .self, f .before .before .args .store .now) in
-    ap (λ (after : Chip). (after, ok (g .signals .result))) (t .step .ensures)
-    ∙ ap (λ (signals : Signals). (afterDot chip, ok signals)) (g .signals .ensures)
+    ap (λ (after : Chip). (after, ok (Last (g .signals .result)))) (t .step .ensures)
+    ∙ ap (λ (signals : Signals). (afterDot chip, ok (Last signals))) (g .signals .ensures)
     ∙ sym (dot-done chip (sym (f .call-check .ensures) ∙ ap answerOutcome (e .enum-told .given .1)))
 
 pub dot-spec : {M : Type 1} → statement M

@@ -6,7 +6,7 @@ use Rattle.refusals.specs.Refusal.{answerOutcome}
 use Rattle.chip_timing.specs.declared.Signals.{Signals}
 use Rattle.chip.specs.Call.{Chip}
 use Rattle.chip.specs.Dot.{signalsOf, afterDot}
-use Rattle.chip.specs.declared.dots.Report.the-variants.{Last}
+use Rattle.chip.specs.declared.report.Report.the-variants.{Last}
 use Rattle.chip.proofs.CallCheck.{allowed-says}
 use Rattle.chip.proofs.Runs.{dots-unfit, dots-none, dots-some}
 use Rattle.chip.proofs.state.State.dots.Statement.{statement}

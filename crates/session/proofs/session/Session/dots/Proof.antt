@@ -5,8 +5,9 @@ use denote.Ref.{now}
 use Rattle.rules.specs.Rule.{Outcome}
 use Rattle.rules.specs.Faults.{Numbered}
 use Rattle.chip.specs.Call.{Chip}
-use Rattle.chip.specs.Dots.{dotsOutcome, ran}
-use Rattle.chip.specs.declared.dots.Report.{Report}
+use Rattle.chip.specs.Report.{dotsOutcome}
+use Rattle.chip.specs.Dots.{ran}
+use Rattle.chip.specs.declared.report.Report.{Report}
 use Rattle.session.specs.Record.{entryOf, atPosition}
 use Rattle.session.proofs.Asked.{asked-by}
 use Rattle.session.proofs.session.Session.dots.Statement.{statement}
