@@ -13,6 +13,7 @@ use Rattle.chip.specs.declared.state.State.{State}
 use Rattle.chip.specs.declared.report.Report.{Report}
 use Rattle.line.specs.Cells.{Lent}
 use Rattle.line.specs.Drawn.{drawn}
+use Rattle.line.specs.declared.request.Request.{Request}
 use Rattle.c_chip.specs.Reports.{wordOf, reportOfDots, inNumbers}
 use Rattle.c_chip.specs.declared.calls.Written.{Written}
 use Rattle.c_chip.specs.declared.calls.ReadBack.{ReadBack}
@@ -58,5 +59,5 @@ abbrev pub lineAnswer : State → Outcome Numbered (Unit {0}) → Drawn
 lineAnswer state answer = record { state = state; refusal = refusalOf answer }
 
 -- what it answers, and the words of the output after it
-unfoldable pub drawnInNumbers : State → ℕ → Lent → List ℕ → Drawn × List ℕ
-drawnInNumbers state y lent output = let all = drawn state y lent output in (lineAnswer (all .0 .0) (all .1), all .0 .1)
+unfoldable pub drawnInNumbers : Request → Lent → List ℕ → Drawn × List ℕ
+drawnInNumbers request lent output = let all = drawn request lent output in (lineAnswer (all .0 .0) (all .1), all .0 .1)

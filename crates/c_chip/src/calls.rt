@@ -2,6 +2,7 @@
 ghost use mathlib.Core.Path.{_≡_};
 ghost use Rattle.chip.specs.State.{fresh};
 ghost use Rattle.line.specs.Cells.{lentOf};
+ghost use Rattle.line.specs.Request.{requestOf};
 ghost use Rattle.c_chip.specs.Calls.{writtenInNumbers, readInNumbers, dottedInNumbers, ranInNumbers, drawnInNumbers};
 use crate::numbers::Reported;
 use crate::numbers::in_numbers;
@@ -12,6 +13,7 @@ use crate::numbers::report_of_dots;
 use crate::numbers::word_of;
 use c_numbers::Refused;
 use chip::state::State;
+use line::request::Request;
 
 // What a write answers.
 #[repr(C)]
@@ -126,9 +128,10 @@ pub extern "C" fn bulitampaw_line(
     overlay: &[u8],
     output: &mut [u32],
 ) -> Drawn
-    ensures { λ r. ⌜ (r, now (output .exit)) ≡ drawnInNumbers state y (lentOf (now (store .entry)) (now (table .entry)) (now (normal .entry)) (now (overlay .entry))) (now (output .entry)) ⌝ }
+    ensures { λ r. ⌜ (r, now (output .exit)) ≡ drawnInNumbers (requestOf state y) (lentOf (now (store .entry)) (now (table .entry)) (now (normal .entry)) (now (overlay .entry))) (now (output .entry)) ⌝ }
 {
-    let drawn = line::draw::draw(state, y, store, table, normal, overlay, output);
+    let request = Request { state, y };
+    let drawn = line::draw::draw(request, store, table, normal, overlay, output);
     let answer = drawn.answer;
     let next = drawn.state;
     Drawn {

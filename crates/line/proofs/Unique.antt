@@ -11,10 +11,10 @@ use Rattle.line.specs.declared.draw.Drawn.{Drawn}
 use Rattle.line.proofs.draw.draw.Reads as draw
 
 -- a line
-pub draw-unique : OneOutcome (λ k exit. now (exit .1 .1 .1 .1 .1 .1 .0)) draw.Post
+pub draw-unique : OneOutcome (λ k exit. now (exit .1 .1 .1 .1 .1 .0)) draw.Post
 draw-unique =
     by-outcome (λ k (r : Drawn). r .state) (λ k (r : Drawn). answerOutcome (r .answer))
     (λ k (r : Drawn) (r′ : Drawn) states says.
     ap (λ (state : State). record { state = state; answer = r .answer }) states
     ∙ ap (λ (answer : Answer). record { state = r′ .state; answer = answer }) (answer-known (r .answer) (r′ .answer) says))
-    _ (λ k exit. now (exit .1 .1 .1 .1 .1 .1 .0)) _
+    _ (λ k exit. now (exit .1 .1 .1 .1 .1 .0)) _

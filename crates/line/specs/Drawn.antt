@@ -10,14 +10,15 @@ use Rattle.line_setup.specs.Controls.{controlsOf}
 use Rattle.line_setup.specs.declared.setup.Setup.{Setup}
 use Rattle.line.specs.Cells.{Lent}
 use Rattle.line.specs.Line.{lineOf}
+use Rattle.line.specs.declared.request.Request.{Request}
 
--- what a line goes by, of a state, a line number, what is lent and the output's length
-unfoldable pub setupOf : State → ℕ → Lent → ℕ → Setup
-setupOf state y lent output =
+-- what a line goes by, of what it is asked for, what is lent and the output's length
+unfoldable pub setupOf : Request → Lent → ℕ → Setup
+setupOf request lent output =
     record {
-      good = goodState state;
-      controls = controlsOf (state .control);
-      y = y;
+      good = goodState (request .state);
+      controls = controlsOf (request .state .control);
+      y = request .y;
       lengths = record {
         store = length (lent .store);
         table = length (lent .table);
@@ -38,8 +39,8 @@ outputAfter width output (ok colours) = colours ++ drop width output
 outputAfter width output (refused refusal) = output
 
 -- the state, the output and the answer; the state is handed back as it was
-unfoldable pub drawn : State → ℕ → Lent → List ℕ → (State × List ℕ) × Outcome Numbered (Unit {0})
-drawn state y lent output =
-    let setup = setupOf state y lent (length output) in
+unfoldable pub drawn : Request → Lent → List ℕ → (State × List ℕ) × Outcome Numbered (Unit {0})
+drawn request lent output =
+    let setup = setupOf request lent (length output) in
     let line = lineOf setup lent in
-    ((state, outputAfter (setup .controls .width) output line), withoutColours line)
+    ((request .state, outputAfter (setup .controls .width) output line), withoutColours line)

@@ -3,10 +3,11 @@ ghost use mathlib.Core.Path.{_≡_};
 ghost use lib.ListN.{length};
 ghost use Rattle.refusals.specs.Refusal.{answerOutcome};
 ghost use Rattle.line.specs.Cells.{lentOf};
-ghost use Rattle.line.specs.Drawn.{drawn};
+ghost use Rattle.line.specs.Drawn.{setupOf, drawn};
 ghost use Rattle.line.specs.Inner.{StartAnswer, CheckedAnswer};
 use crate::passes::check_runs;
 use crate::passes::draw_runs;
+use crate::request::Request;
 use chip::state::State;
 use line_setup::controls::Controls;
 use line_setup::setup::Lengths;
@@ -19,6 +20,33 @@ use refusals::Refusal;
 pub struct Drawn {
     pub state: State,
     pub answer: Answer,
+}
+
+// What a line goes by, with so many words of output.
+fn setup(
+    request: Request,
+    store: &[u32],
+    table: &[u8],
+    normal: &[u8],
+    overlay: &[u8],
+    output: usize,
+) -> Setup
+    ensures { λ r. ⌜ r ≡ setupOf request (lentOf (now (store .entry)) (now (table .entry)) (now (normal .entry)) (now (overlay .entry))) output ⌝ }
+{
+    let state = request.state;
+    let control = state.control;
+    Setup {
+        good: state.good(),
+        controls: Controls::of(control),
+        y: request.y,
+        lengths: Lengths {
+            store: store.len(),
+            table: table.len(),
+            normal: normal.len(),
+            overlay: overlay.len(),
+            output,
+        },
+    }
 }
 
 // Where the line table of line y starts; with window IDs off there is none.
@@ -52,32 +80,20 @@ fn checked(setup: Setup, store: &[u32], table: &[u8]) -> LineTable
     }
 }
 
-// Draws line y into the front of the output, or refuses it and leaves all as it was.
+// Draws the line that is asked for into the front of the output, or refuses it and leaves all as it was.
 pub fn draw(
-    state: State,
-    y: u32,
+    request: Request,
     store: &[u32],
     table: &[u8],
     normal: &[u8],
     overlay: &[u8],
     out: &mut [u32],
 ) -> Drawn
-    ensures { λ r. ⌜ ((r .state, now (out .exit)), answerOutcome (r .answer)) ≡ drawn state y (lentOf (now (store .entry)) (now (table .entry)) (now (normal .entry)) (now (overlay .entry))) (now (out .entry)) ⌝ }
+    ensures { λ r. ⌜ ((r .state, now (out .exit)), answerOutcome (r .answer)) ≡ drawn request (lentOf (now (store .entry)) (now (table .entry)) (now (normal .entry)) (now (overlay .entry))) (now (out .entry)) ⌝ }
 {
-    let control = state.control;
-    let setup = Setup {
-        good: state.good(),
-        controls: Controls::of(control),
-        y,
-        lengths: Lengths {
-            store: store.len(),
-            table: table.len(),
-            normal: normal.len(),
-            overlay: overlay.len(),
-            output: out.len(),
-        },
-    };
+    let setup = setup(request, store, table, normal, overlay, out.len());
     let checked = checked(setup, store, table);
+    let state = request.state;
     match checked {
         LineTable::Refused(refusal) => Drawn {
             state,
@@ -85,7 +101,7 @@ pub fn draw(
         },
         LineTable::Starts(start) => {
             let controls = setup.controls;
-            draw_runs(controls, y, store, table, start, normal, overlay, out);
+            draw_runs(controls, setup.y, store, table, start, normal, overlay, out);
             Drawn {
                 state,
                 answer: Answer::Done,

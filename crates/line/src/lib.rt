@@ -1,4 +1,5 @@
 // One drawn line.
 pub mod draw;
 mod passes;
+pub mod request;
 mod runs;

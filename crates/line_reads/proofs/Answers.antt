@@ -11,12 +11,12 @@ use Rattle.rules.proofs.Cases.{impossible}
 use Rattle.refusals.specs.Refusal.{numbered, fault}
 use Rattle.refusals.specs.declared.Refusal.the-variants.{BadState}
 use Rattle.chip.specs.State.{goodState}
-use Rattle.chip.specs.declared.state.State.{State}
 use Rattle.line_setup.specs.Faults.{lengthFaults, lineFaults}
 use Rattle.line_setup.specs.declared.setup.Setup.{Setup}
 use Rattle.line.specs.Cells.{Lent}
 use Rattle.line.specs.Line.{lineOf}
 use Rattle.line.specs.Drawn.{setupOf, withoutColours, outputAfter, drawn}
+use Rattle.line.specs.declared.request.Request.{Request}
 use Rattle.line_reads.specs.Reasons.{Reason, at-once, no-frame-entry, no-line-entry, undefined-entry}
 use Rattle.line_reads.proofs.Reasons.{refused-for, for-refused}
 
@@ -57,13 +57,13 @@ not-11 setup lent good (undefined-entry clear x comes at is) = rw is (λ e. omeg
 
 -- ---- the state and the output
 
-module _ (state : State) (y : ℕ) (lent : Lent) (output : List ℕ) where
+module _ (request : Request) (lent : Lent) (output : List ℕ) where
   -- what the line goes by
   abbrev given : Setup
-  given = setupOf state y lent (length output)
+  given = setupOf request lent (length output)
 
   -- the state is handed back as it was
-  pub state-stays : drawn state y lent output .0 .0 ≡ state
+  pub state-stays : drawn request lent output .0 .0 ≡ request .state
   unfolding drawn
   state-stays = refl
 
@@ -73,28 +73,28 @@ module _ (state : State) (y : ℕ) (lent : Lent) (output : List ℕ) where
   said-refused (refused refusal) e = cc
 
   -- the answer is a refusal only for a reason
-  pub answer-for : {refusal : Numbered} → drawn state y lent output .1 ≡ refused refusal → Reason given lent refusal
+  pub answer-for : {refusal : Numbered} → drawn request lent output .1 ≡ refused refusal → Reason given lent refusal
   unfolding drawn
   answer-for e = refused-for given lent (said-refused (lineOf given lent) e)
 
   -- and for each reason
-  pub for-answer : {refusal : Numbered} → Reason given lent refusal → drawn state y lent output .1 ≡ refused refusal
+  pub for-answer : {refusal : Numbered} → Reason given lent refusal → drawn request lent output .1 ≡ refused refusal
   unfolding drawn
   for-answer reason = ap withoutColours (for-refused given lent reason)
 
   -- a line that is refused leaves the output as it was
-  pub output-stays : {refusal : Numbered} → drawn state y lent output .1 ≡ refused refusal → drawn state y lent output .0 .1 ≡ output
+  pub output-stays : {refusal : Numbered} → drawn request lent output .1 ≡ refused refusal → drawn request lent output .0 .1 ≡ output
   unfolding drawn
   output-stays e = ap (outputAfter (given .controls .width) output) (said-refused (lineOf given lent) e)
 
   -- a line of a good state is never refused by 11
-  pub good-not-11 : goodState state ≡ true → {refusal : Numbered} → drawn state y lent output .1 ≡ refused refusal → Not11 refusal
+  pub good-not-11 : goodState (request .state) ≡ true → {refusal : Numbered} → drawn request lent output .1 ≡ refused refusal → Not11 refusal
   unfolding setupOf
   good-not-11 good e = not-11 given lent good (answer-for e)
 
   -- one of any other state always is
-  pub bad-11 : goodState state ≡ false → drawn state y lent output .1 ≡ refused (numbered BadState)
+  pub bad-11 : goodState (request .state) ≡ false → drawn request lent output .1 ≡ refused (numbered BadState)
   unfolding setupOf lineFaults
   bad-11 bad =
       for-answer
-      (at-once (record { passed = []; found = fault BadState (not (goodState state)); later = _; order = refl; clear = tt; holds = rw bad refl; is = refl }))
+      (at-once (record { passed = []; found = fault BadState (not (goodState (request .state))); later = _; order = refl; clear = tt; holds = rw bad refl; is = refl }))

@@ -12,7 +12,6 @@ use Rattle.line_colour.specs.declared.entry.WindowEntry.{WindowEntry}
 use Rattle.line_pixels.specs.Cells.{pixelView}
 use Rattle.line_pixels.specs.Colour.{colourOfPixel}
 use Rattle.line_pixels.proofs.Below.{colour-below}
-use Rattle.chip.specs.declared.state.State.{State}
 use Rattle.line_setup.specs.Controls.{controlsOf}
 use Rattle.line_setup.specs.Faults.{lineFaults}
 use Rattle.line_setup.specs.declared.setup.Setup.{Setup}
@@ -20,6 +19,7 @@ use Rattle.line.specs.Screen.{screenIn}
 use Rattle.line.specs.Cells.{ofColour, Lent, view}
 use Rattle.line.specs.Line.{inColours, entriesOf, coloursOf, lineRule, lineOf}
 use Rattle.line.specs.Drawn.{setupOf, drawn}
+use Rattle.line.specs.declared.request.Request.{Request}
 use Rattle.line_reads.proofs.Parts.{both}
 use Rattle.line_reads.proofs.Outputs.{drawn-line, word-drawn}
 
@@ -56,9 +56,9 @@ module _ (setup : Setup) (lent : Lent) where
       each-of-below (view lent) _ (2 ^ 24) (lit< tt) pixel-below (two .first) 0 (two .next)
 
 -- every word of the active width that a drawn line leaves in the output
-pub output-below : (state : State) (y : ℕ) (lent : Lent) (output : List ℕ) → drawn state y lent output .1 ≡ ok tt
-    → (i : ℕ) → i < controlsOf (state .control) .width → getD (drawn state y lent output .0 .1) i 0 < 2 ^ 24
+pub output-below : (request : Request) (lent : Lent) (output : List ℕ) → drawn request lent output .1 ≡ ok tt
+    → (i : ℕ) → i < controlsOf (request .state .control) .width → getD (drawn request lent output .0 .1) i 0 < 2 ^ 24
 unfolding setupOf
-output-below state y lent output is-drawn i below =
-    let line = drawn-line state y lent output is-drawn in
-    rw (word-drawn state y lent output (line .1) i below) (words-below (setupOf state y lent (length output)) lent (line .1) i)
+output-below request lent output is-drawn i below =
+    let line = drawn-line request lent output is-drawn in
+    rw (word-drawn request lent output (line .1) i below) (words-below (setupOf request lent (length output)) lent (line .1) i)

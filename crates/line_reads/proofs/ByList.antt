@@ -3,11 +3,11 @@ use Prim.Native.Nat.{ℕ}
 use mathlib.Core.Path.{_≡_, subst}
 use mathlib.Core.List.{List, List·Memᴰ}
 use lib.ListN.{length}
-use Rattle.chip.specs.declared.state.State.{State}
 use Rattle.line_setup.specs.declared.setup.Setup.{Setup}
 use Rattle.line.specs.Cells.{Cell, Lent, view}
 use Rattle.line.specs.Line.{lineOf}
 use Rattle.line.specs.Drawn.{setupOf, drawn}
+use Rattle.line.specs.declared.request.Request.{Request}
 use Rattle.line_reads.specs.Calls.{SameLengths, AgreeOnReads}
 use Rattle.line_reads.specs.Listed.{Listed, AgreeOnList}
 use Rattle.line_reads.proofs.Demand.{line-rests, line-reads, drawn-rests}
@@ -34,8 +34,8 @@ pub line-rests-on-longer : (setup : Setup) (lent other : Lent) (Longer : Cell �
     → ((cell : Cell) → Longer cell → view lent cell ≡ view other cell) → lineOf setup lent ≡ lineOf setup other
 line-rests-on-longer setup lent other Longer holds agree = line-rests-on-list setup lent other (λ cell listed. agree cell (holds cell listed))
 
--- the same over states, in the contract's own words
-pub drawn-rests-on-list : (state : State) (y : ℕ) (lent other : Lent) → SameLengths lent other → (output : List ℕ)
-    → AgreeOnList (setupOf state y lent (length output)) lent other → drawn state y lent output ≡ drawn state y other output
-drawn-rests-on-list state y lent other same output agree =
-    drawn-rests state y lent other same output (on-reads (setupOf state y lent (length output)) lent other agree)
+-- the same in the contract's own words: state, output and answer
+pub drawn-rests-on-list : (request : Request) (lent other : Lent) → SameLengths lent other → (output : List ℕ)
+    → AgreeOnList (setupOf request lent (length output)) lent other → drawn request lent output ≡ drawn request other output
+drawn-rests-on-list request lent other same output agree =
+    drawn-rests request lent other same output (on-reads (setupOf request lent (length output)) lent other agree)

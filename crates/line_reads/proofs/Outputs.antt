@@ -9,7 +9,6 @@ use Rattle.rules.specs.Rule.{Outcome, ok, refused, run, _>>=_}
 use Rattle.rules.specs.Faults.{Numbered}
 use Rattle.rules.specs.Checked.{verdict}
 use Rattle.rules.proofs.Cases.{impossible}
-use Rattle.chip.specs.declared.state.State.{State}
 use Rattle.line_setup.specs.Controls.{controlsOf}
 use Rattle.line_setup.specs.Faults.{lineFaults}
 use Rattle.line_setup.specs.declared.setup.Setup.{Setup}
@@ -17,6 +16,7 @@ use Rattle.line_setup.proofs.Fitted.{fitted}
 use Rattle.line.specs.Cells.{Lent, view}
 use Rattle.line.specs.Line.{entriesOf, coloursOf, lineOf}
 use Rattle.line.specs.Drawn.{setupOf, drawn, withoutColours, outputAfter}
+use Rattle.line.specs.declared.request.Request.{Request}
 use Rattle.line_reads.specs.Calls.{SameLengths, AgreeOnReads}
 use Rattle.line_reads.proofs.Demand.{outcome-rests}
 use Rattle.line_reads.proofs.Before.{refused-unread, passes}
@@ -43,13 +43,13 @@ module _ (setup : Setup) (lent : Lent) where
       by (refused refusal) early = impossible (cc (refused-unread setup lent early))
       by (ok tt) fine = passes-length (sym (passes setup lent fine) ∙ e)
 
-module _ (state : State) (y : ℕ) (lent : Lent) (output : List ℕ) where
+module _ (request : Request) (lent : Lent) (output : List ℕ) where
   -- what the line goes by
   abbrev given : Setup
-  given = setupOf state y lent (length output)
+  given = setupOf request lent (length output)
 
   -- a call that answers that the line is drawn has its colours
-  pub drawn-line : drawn state y lent output .1 ≡ ok tt → (colours : List ℕ) × (lineOf given lent ≡ ok colours)
+  pub drawn-line : drawn request lent output .1 ≡ ok tt → (colours : List ℕ) × (lineOf given lent ≡ ok colours)
   unfolding drawn
   drawn-line is-drawn = by (lineOf given lent) refl is-drawn
     where
@@ -58,16 +58,16 @@ module _ (state : State) (y : ℕ) (lent : Lent) (output : List ℕ) where
       by (refused refusal) e is = impossible (cc)
 
   -- a word of the active width is then a colour
-  pub word-drawn : {colours : List ℕ} → lineOf given lent ≡ ok colours → (x : ℕ) → x < controlsOf (state .control) .width
-      → getD (drawn state y lent output .0 .1) x 0 ≡ getD colours x 0
+  pub word-drawn : {colours : List ℕ} → lineOf given lent ≡ ok colours → (x : ℕ) → x < controlsOf (request .state .control) .width
+      → getD (drawn request lent output .0 .1) x 0 ≡ getD colours x 0
   unfolding drawn setupOf
   word-drawn {colours} e x active =
-      let width = controlsOf (state .control) .width in
+      let width = controlsOf (request .state .control) .width in
       ap (λ (line : Outcome Numbered (List ℕ)). getD (outputAfter width output line) x 0) e
       ∙ List·getD-append colours (drop width output) 0 x (omega (arith, colours-length given lent e))
 
   -- a word past the active width stays, whatever comes of the line
-  pub word-past : (x : ℕ) → controlsOf (state .control) .width ≤ x → getD (drawn state y lent output .0 .1) x 0 ≡ getD output x 0
+  pub word-past : (x : ℕ) → controlsOf (request .state .control) .width ≤ x → getD (drawn request lent output .0 .1) x 0 ≡ getD output x 0
   unfolding drawn setupOf
   word-past x past = by (lineOf given lent) refl
     where
@@ -93,7 +93,7 @@ module _ (state : State) (y : ℕ) (lent : Lent) (output : List ℕ) where
       by (refused refusal) early = impossible (cc (refused-unread given lent early))
 
   -- and it is as long after any line as before
-  pub output-length : length (drawn state y lent output .0 .1) ≡ length output
+  pub output-length : length (drawn request lent output .0 .1) ≡ length output
   unfolding drawn
   output-length = by (lineOf given lent) refl
     where
@@ -104,11 +104,11 @@ module _ (state : State) (y : ℕ) (lent : Lent) (output : List ℕ) where
       by (refused refusal) e = refl
 
 -- outputs of the same length that held different words: where a line is drawn, the words of the active width are the same after it
-pub words-rest : (state : State) (y : ℕ) (lent other : Lent) → SameLengths lent other → (output old : List ℕ) → length output ≡ length old
-    → AgreeOnReads (setupOf state y lent (length output)) lent other → drawn state y lent output .1 ≡ ok tt
-    → (i : ℕ) → i < controlsOf (state .control) .width → getD (drawn state y lent output .0 .1) i 0 ≡ getD (drawn state y other old .0 .1) i 0
-words-rest state y lent other same output old long agree is-drawn i below =
-    let line = drawn-line state y lent output is-drawn in
-    let again : lineOf (setupOf state y other (length old)) other ≡ ok (line .0) =
-    ap (λ (n : ℕ). lineOf (setupOf state y other n) other) (sym long) ∙ sym (outcome-rests state y lent other same (length output) agree) ∙ line .1 in
-    word-drawn state y lent output (line .1) i below ∙ sym (word-drawn state y other old again i below)
+pub words-rest : (request : Request) (lent other : Lent) → SameLengths lent other → (output old : List ℕ) → length output ≡ length old
+    → AgreeOnReads (setupOf request lent (length output)) lent other → drawn request lent output .1 ≡ ok tt
+    → (i : ℕ) → i < controlsOf (request .state .control) .width → getD (drawn request lent output .0 .1) i 0 ≡ getD (drawn request other old .0 .1) i 0
+words-rest request lent other same output old long agree is-drawn i below =
+    let line = drawn-line request lent output is-drawn in
+    let again : lineOf (setupOf request other (length old)) other ≡ ok (line .0) =
+    ap (λ (n : ℕ). lineOf (setupOf request other n) other) (sym long) ∙ sym (outcome-rests request lent other same (length output) agree) ∙ line .1 in
+    word-drawn request lent output (line .1) i below ∙ sym (word-drawn request other old again i below)

@@ -12,7 +12,6 @@ use Rattle.rules.proofs.Then.{run-ok}
 use Rattle.rules.proofs.Value.{run-within-value}
 use Rattle.line_colour.specs.declared.entry.WindowEntry.{WindowEntry}
 use Rattle.line_pixels.specs.Colour.{colourOfPixel}
-use Rattle.chip.specs.declared.state.State.{State}
 use Rattle.line_setup.specs.Controls.{controlsOf}
 use Rattle.line_setup.specs.Faults.{lineFaults}
 use Rattle.line_setup.specs.declared.setup.Setup.{Setup}
@@ -20,6 +19,7 @@ use Rattle.line.specs.Screen.{screenIn}
 use Rattle.line.specs.Cells.{ofColour, Lent, view}
 use Rattle.line.specs.Line.{entriesOf, inColours, coloursOf, lineOf}
 use Rattle.line.specs.Drawn.{setupOf, drawn}
+use Rattle.line.specs.declared.request.Request.{Request}
 use Rattle.line_reads.specs.PixelColour.{HasColour}
 use Rattle.line_reads.proofs.Before.{refused-unread, passes}
 use Rattle.line_reads.proofs.Parts.{both}
@@ -67,10 +67,10 @@ module _ (setup : Setup) (lent : Lent) where
       ∙ sym (second .is)
 
 -- the same of the whole call: where it answers that the line is drawn, each word of the active width is the colour of its pixel
-pub drawn-colour : (state : State) (y : ℕ) (lent : Lent) (output : List ℕ) → drawn state y lent output .1 ≡ ok tt
-    → (x : ℕ) → x < controlsOf (state .control) .width → HasColour (setupOf state y lent (length output)) lent x (getD (drawn state y lent output .0 .1) x 0)
+pub drawn-colour : (request : Request) (lent : Lent) (output : List ℕ) → drawn request lent output .1 ≡ ok tt
+    → (x : ℕ) → x < controlsOf (request .state .control) .width → HasColour (setupOf request lent (length output)) lent x (getD (drawn request lent output .0 .1) x 0)
 unfolding setupOf
-drawn-colour state y lent output is-drawn x active =
-    let line = drawn-line state y lent output is-drawn in
-    subst (HasColour (setupOf state y lent (length output)) lent x) (sym (word-drawn state y lent output (line .1) x active))
-    (pixel-colour (setupOf state y lent (length output)) lent (line .1) x active)
+drawn-colour request lent output is-drawn x active =
+    let line = drawn-line request lent output is-drawn in
+    subst (HasColour (setupOf request lent (length output)) lent x) (sym (word-drawn request lent output (line .1) x active))
+    (pixel-colour (setupOf request lent (length output)) lent (line .1) x active)

@@ -14,6 +14,7 @@ use Rattle.session_listing.specs.Text.{saysOk}
 use Rattle.session_answers.specs.Status.{Status, listed, ended}
 use Rattle.line_setup.specs.Controls.{controlsOf}
 use Rattle.line.specs.Cells.{lentOf}
+use Rattle.line.specs.Request.{requestOf}
 use Rattle.line.specs.Drawn.{drawn}
 use Rattle.session.specs.Record.{entryOf, atPosition}
 use Rattle.session.specs.Lent.{Rooms, roomsOf, heldIn}
@@ -94,13 +95,13 @@ module _ (session : Session) (rooms : Rooms) (body : List ℕ) (within : Within 
   -- a line
   pub acts-line : (y : ℕ) {left : (Session × List ℕ) × Outcome Numbered Status}
       → let held = heldIn session rooms in
-      let after = drawn (session .state) y (lentOf (rooms .store) (held .table) (held .normal) (held .overlay)) (rooms .output) in
+      let after = drawn (requestOf (session .state) y) (lentOf (rooms .store) (held .table) (held .normal) (held .overlay)) (rooms .output) in
       left ≡ askedIn session (saysLine y (controlsOf (session .state .control) .width)) after
       → shown left ≡ actedIn session rooms (Line y) body
   unfolding actedIn
   acts-line y is =
       let held = heldIn session rooms in
-      let after = drawn (session .state) y (lentOf (rooms .store) (held .table) (held .normal) (held .overlay)) (rooms .output) in
+      let after = drawn (requestOf (session .state) y) (lentOf (rooms .store) (held .table) (held .normal) (held .overlay)) (rooms .output) in
       ap shown is
       ∙ ap (come-to (listed (entryOf (saysLine y (controlsOf (session .state .control) .width)) (after .1))))
       (sym (back-line session rooms within (after .0 .0, rooms .store) (after .0 .1)))

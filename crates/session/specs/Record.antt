@@ -24,6 +24,7 @@ use Rattle.session_listing.specs.Text as text
 use Rattle.session_answers.specs.Status.{Status, listed, ended, needsMore, stopped}
 use Rattle.line_setup.specs.Controls.{controlsOf}
 use Rattle.line.specs.Cells.{lentOf}
+use Rattle.line.specs.Request.{requestOf}
 use Rattle.line.specs.Drawn.{drawn}
 use Rattle.session.specs.Held.{Held, withChip, withTable, withNormal, withOverlay, withLine}
 
@@ -61,7 +62,7 @@ acted held Normal body = (withNormal held body, listed text.saysOk)
 acted held Overlay body = (withOverlay held body, listed text.saysOk)
 acted held (Line y) body =
     drew held y
-    (drawn (held .chip .0) y (lentOf (held .chip .1) (held .table) (held .normal) (held .overlay)) (held .output))
+    (drawn (requestOf (held .chip .0) y) (lentOf (held .chip .1) (held .table) (held .normal) (held .overlay)) (held .output))
 
 -- what comes of what was found: what is held, how many bytes were taken, and what it comes to. Without a record all is as it was
 abbrev pub statusBy : Held → List ℕ → RecordAt → (Held × ℕ) × Status

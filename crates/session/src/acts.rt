@@ -11,6 +11,7 @@ ghost use Rattle.session_listing.specs.Text.{saysOk};
 ghost use Rattle.session_answers.specs.Status.{stepOutcome};
 ghost use Rattle.line_setup.specs.Controls.{controlsOf};
 ghost use Rattle.line.specs.Cells.{lentOf};
+ghost use Rattle.line.specs.Request.{requestOf};
 ghost use Rattle.line.specs.Drawn.{drawn};
 ghost use Rattle.session.specs.Record.{entryOf, atPosition};
 ghost use Rattle.session.specs.Lent.{roomsOf};
@@ -19,6 +20,7 @@ use crate::keep::keep;
 use crate::session::Session;
 use chip::state::State;
 use chip_timing::Position;
+use line::request::Request;
 use line_setup::controls::Controls;
 use refusals::Answer;
 use session_answers::StepAnswer;
@@ -130,15 +132,15 @@ impl Session {
     ) -> Acted
         requires { ⌜ self .records < 1000000 ⌝ }
         requires { ⌜ Within self (roomsOf (now store) (now table) (now normal) (now overlay) (now output)) ⌝ }
-        ensures { λ r. ⌜ ((r .session, now (output .exit)), stepOutcome (r .answer)) ≡ askedIn self (saysLine y (controlsOf (self .state .control) .width)) (drawn (self .state) y (lentOf (now (store .entry)) (take (self .table) (now (table .entry))) (take (self .normal) (now (normal .entry))) (take (self .overlay) (now (overlay .entry)))) (now (output .entry))) ⌝ }
+        ensures { λ r. ⌜ ((r .session, now (output .exit)), stepOutcome (r .answer)) ≡ askedIn self (saysLine y (controlsOf (self .state .control) .width)) (drawn (requestOf (self .state) y) (lentOf (now (store .entry)) (take (self .table) (now (table .entry))) (take (self .normal) (now (normal .entry))) (take (self .overlay) (now (overlay .entry)))) (now (output .entry))) ⌝ }
     {
         let state = self.state;
         let table_end = self.table;
         let normal_end = self.normal;
         let overlay_end = self.overlay;
+        let request = Request { state, y };
         let drawn = line::draw::draw(
-            state,
-            y,
+            request,
             store,
             &table[0..table_end],
             &normal[0..normal_end],

@@ -15,6 +15,7 @@ use Rattle.session_answers.specs.Status.{listed}
 use Rattle.session_rooms.specs.Rooms.{roomFaults}
 use Rattle.line_setup.specs.Controls.{controlsOf}
 use Rattle.line.specs.Cells.{lentOf}
+use Rattle.line.specs.Request.{requestOf}
 use Rattle.line.specs.Drawn.{drawn}
 use Rattle.session.specs.Held.{Held}
 use Rattle.session.specs.Record.{entryOf, atPosition, acted}
@@ -47,6 +48,6 @@ module _ (held : Held) (body : List ℕ) {refusal : Numbered} where
 
   -- a line
   pub line-refused : (y : ℕ)
-      → drawn (held .chip .0) y (lentOf (held .chip .1) (held .table) (held .normal) (held .overlay)) (held .output) .1 ≡ refused refusal
+      → drawn (requestOf (held .chip .0) y) (lentOf (held .chip .1) (held .table) (held .normal) (held .overlay)) (held .output) .1 ≡ refused refusal
       → acted held (Line y) body .1 ≡ listed (entry.saysRefused refusal)
   line-refused y is = ap (λ (outcome : Outcome Numbered (Unit {0})). listed (entryOf (entry.saysLine y (controlsOf (held .chip .0 .control) .width)) outcome)) is

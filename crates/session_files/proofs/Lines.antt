@@ -14,6 +14,7 @@ use Rattle.session_answers.specs.Status.{textOf}
 use Rattle.line_setup.specs.Controls.{controlsOf}
 use Rattle.line.specs.Cells.{Lent, lentOf}
 use Rattle.line.specs.Line.{lineOf}
+use Rattle.line.specs.Request.{requestOf}
 use Rattle.line.specs.Drawn.{setupOf, drawn}
 use Rattle.session.specs.Held.{Held}
 use Rattle.session.specs.Record.{contextOf, stepped}
@@ -26,11 +27,11 @@ lentBy held = lentOf (held .chip .1) (held .table) (held .normal) (held .overlay
 
 -- a line record whose line is drawn lists `line y`, and each colour of the active width on a line of its own
 pub line-lists : (last : Bool) (held : Held) (bytes : List ℕ) {y count : ℕ} {colours : List ℕ} → recordAt (contextOf held last) bytes ≡ Is (Line y) count
-    → lineOf (setupOf (held .chip .0) y (lentBy held) (length (held .output))) (lentBy held) ≡ ok colours
+    → lineOf (setupOf (requestOf (held .chip .0) y) (lentBy held) (length (held .output))) (lentBy held) ≡ ok colours
     → textOf (stepped last held bytes .0 .0 .output) (stepped last held bytes .1) ≡ ended (ascii "line" ++ spaced (y ∷ [])) ++ pixels colours
 unfolding drawn text setupOf
 line-lists last held bytes {y} {count} {colours} is drawn-so =
     let width = controlsOf (held .chip .0 .control) .width in
     rw (by-found last held bytes is, drawn-so)
     (ap (λ (shown : List ℕ). ended (ascii "line" ++ spaced (y ∷ [])) ++ pixels shown)
-    (take-at colours (drop width (held .output)) width (colours-length (setupOf (held .chip .0) y (lentBy held) (length (held .output))) (lentBy held) drawn-so)))
+    (take-at colours (drop width (held .output)) width (colours-length (setupOf (requestOf (held .chip .0) y) (lentBy held) (length (held .output))) (lentBy held) drawn-so)))

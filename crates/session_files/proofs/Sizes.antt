@@ -22,6 +22,7 @@ use Rattle.session_records.proofs.Accepted.{found-accepted}
 use Rattle.session_records.proofs.Limits.{table-fits, normal-fits, overlay-fits}
 use Rattle.session_rooms.specs.Rooms.{longestLine}
 use Rattle.line.specs.Cells.{lentOf}
+use Rattle.line.specs.Request.{requestOf}
 use Rattle.session.specs.Held.{Held, nothingHeld, withChip}
 use Rattle.session.specs.Record.{acted, contextOf, stepped}
 use Rattle.line_reads.proofs.Answers.{state-stays}
@@ -100,8 +101,8 @@ module _ (held : Held) (roomy : Roomy held) where
           table-held = roomy .table-held;
           normal-held = roomy .normal-held;
           overlay-held = roomy .overlay-held;
-          output-long = output-length (held .chip .0) y lent (held .output) ∙ roomy .output-long;
-          state-whole = subst HasArrays (sym (state-stays (held .chip .0) y lent (held .output))) (roomy .state-whole);
+          output-long = output-length (requestOf (held .chip .0) y) lent (held .output) ∙ roomy .output-long;
+          state-whole = subst HasArrays (sym (state-stays (requestOf (held .chip .0) y) lent (held .output))) (roomy .state-whole);
         }
 
 -- every step keeps them

@@ -9,6 +9,7 @@ use Rattle.refusals.specs.Refusal.{answerOutcome}
 use Rattle.session_listing.specs.Text.{saysLine}
 use Rattle.line_setup.specs.Controls.{controlsOf}
 use Rattle.line.specs.Cells.{lentOf}
+use Rattle.line.specs.Request.{requestOf}
 use Rattle.line.specs.Drawn.{drawn}
 use Rattle.session.specs.Record.{entryOf}
 use Rattle.session.proofs.Asked.{asked-by}
@@ -65,8 +66,8 @@ returns c =
     let call = c .before .before .before .before .before .before .before in
     let given = call .before .before .before .before .before .before .before .before .before .before .before .args in
     let held = given .self in
-    let after = drawn (held .state) (given .y) (lentOf (now (given .store)) (take (held .table) (now (given .table))) (take (held .normal) (now (given .normal))) (take (held .overlay) (now (given .overlay)))) (now (given .output)) in
-    asked-by held (saysLine (given .y) (controlsOf (held .state .control) .width)) (call .draw .result .state) (call .draw .last .1 .1 .1 .1 .1 .1 .0) (answerOutcome (call .draw .result .answer)) after
+    let after = drawn (requestOf (held .state) (given .y)) (lentOf (now (given .store)) (take (held .table) (now (given .table))) (take (held .normal) (now (given .normal))) (take (held .overlay) (now (given .overlay)))) (now (given .output)) in
+    asked-by held (saysLine (given .y) (controlsOf (held .state .control) .width)) (call .draw .result .state) (call .draw .last .1 .1 .1 .1 .1 .0) (answerOutcome (call .draw .result .answer)) after
     (c .listed .ensures) (c .before .before .before .with-state .ensures)
     (rw (sub-zero (held .table), sub-zero (held .normal), sub-zero (held .overlay)) at (call .draw .ensures))
     (c .before .entry-of .ensures ∙ ap (λ (width : ℕ). entryOf (saysLine (given .y) width) (answerOutcome (call .draw .result .answer))) (c .before .before .width .ensures))
