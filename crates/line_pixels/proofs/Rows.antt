@@ -1,12 +1,16 @@
 -- Where the pixels of a run stand in the normal row, under an entry that is defined at the depth. Assumes nothing.
-use Prim.Native.Nat.{ℕ, _+_, _*_, _/_, _≤_, _<_}
+use Prim.Native.Nat.{ℕ, _+_, _*_, _/_, _≤_}
 use mathlib.Core.Path.{_≡_}
-use mathlib.Core.Logic.{_⊎_, ⊎-elim}
+use mathlib.Core.Logic.{⊎-elim}
+use mathlib.Core.List.{List}
 use native.Mathlib.Nat.{le-trans, mul-le-mul-right}
 use native.Mathlib.Omega.{arith}
+use lib.ListN.{length}
 use Rattle.line_colour.specs.declared.entry.WindowEntry.{WindowEntry}
 use Rattle.line_colour.proofs.Defined.{Says, defined-says}
 use Rattle.line_pixels.specs.Colour.{SaidAt}
+use Rattle.line_pixels.specs.Inner.{PlainLent, PixelsLent}
+use Rattle.line_pixels.specs.declared.Screen.{Screen}
 
 -- what an entry says that some window entry says
 pub said-says : (depth : ℕ) (entry : WindowEntry) → SaidAt depth entry → Says depth entry
@@ -21,15 +25,25 @@ module _ (depth x : ℕ) {long : ℕ} where
   pub two-bytes : depth ≡ 16 → (x + 1) * (depth / 8) ≤ long → 2 * x + 2 ≤ long
   two-bytes is h = let h′ : (x + 1) * 2 ≤ long = rw is at h in omega arith
 
-  module _ (count : ℕ) (h : (x + count) * (depth / 8) ≤ long) where
-    -- each pixel of a run lies in a row that has the run
-    pub in-row : (i : ℕ) → i < count → (x + i + 1) * (depth / 8) ≤ long
-    in-row i below = let le : x + i + 1 ≤ x + count = omega arith in le-trans (mul-le-mul-right (depth / 8) le) h
+module _ {depth end : ℕ} {entry : WindowEntry} {store normal : List ℕ} (lent : PlainLent depth entry store normal end) where
+  -- what is lent for a run is lent for each pixel of it
+  pub plain-before : {before : ℕ} → before ≤ end → PlainLent depth entry store normal before
+  plain-before le =
+      record {
+        said = lent .said;
+        store-long = lent .store-long;
+        normal-long = le-trans (mul-le-mul-right (depth / 8) le) (lent .normal-long);
+      }
 
-    -- a row has more bytes than pixels
-    pub pixels-le : (depth ≡ 16) ⊎ (depth ≡ 32) → x + count ≤ long
-    pixels-le at =
-        ⊎-elim
-        (λ is. let h′ : (x + count) * 2 ≤ long = rw is at h in omega arith)
-        (λ is. let h′ : (x + count) * 4 ≤ long = rw is at h in omega arith)
-        at
+  -- the normal row has no fewer bytes than pixels
+  pub pixels-le : end ≤ length normal
+  pixels-le =
+      ⊎-elim
+      (λ is. let h : end * 2 ≤ length normal = rw is at (lent .normal-long) in omega arith)
+      (λ is. let h : end * 4 ≤ length normal = rw is at (lent .normal-long) in omega arith)
+      (said-says depth entry (lent .said) .at-depth)
+
+-- what is lent for a run with overlay is lent for each pixel of it
+pub pixels-before : {screen : Screen} {entry : WindowEntry} {store normal overlay : List ℕ} {end before : ℕ}
+    → PixelsLent screen entry store normal overlay end → before ≤ end → PixelsLent screen entry store normal overlay before
+pixels-before lent le = record { plain = plain-before (lent .plain) le; overlay-long = λ counts. le-trans le (lent .overlay-long counts) }

@@ -1,16 +1,33 @@
--- What the functions inside say of a rule that looks at a part of lent memory.
-use Prim.Native.Nat.{ℕ, _+_, _≤_, _<_}
+-- What the functions inside ask of lent memory, and say of a rule that looks at a part of it.
+use Prim.Native.Nat.{ℕ, _+_, _*_, _/_, _≤_, _<_}
 use mathlib.Core.Path.{_≡_}
 use mathlib.Core.Bool.{Bool, true, false}
 use mathlib.Core.Logic.{_⊎_}
 use mathlib.Core.List.{List}
+use lib.ListN.{length}
 use Rattle.rules.specs.Rule.{Rule, value}
 use Rattle.rules.specs.Lists.{filled}
+use Rattle.chip_registers.specs.Store.{storeLength}
 use Rattle.line_colour.specs.declared.entry.WindowEntry.{WindowEntry}
 use Rattle.line_pixels.specs.Cells.{PixelCell, pixelView}
 use Rattle.line_pixels.specs.Cursor.{cursorAt}
-use Rattle.line_pixels.specs.Colour.{plainAt, colourOfPixel}
+use Rattle.line_pixels.specs.Colour.{SaidAt, plainAt, overlayCounts, colourOfPixel}
 use Rattle.line_pixels.specs.declared.Screen.{Screen}
+
+-- enough is lent for the plain colour of each pixel before `end`: the entry is said at the depth, the store is whole, and the normal row has those pixels
+pub record PlainLent (depth : ℕ) (entry : WindowEntry) (store normal : List ℕ) (end : ℕ) : Type 0 where
+  pub said : SaidAt depth entry
+  pub store-long : length store ≡ storeLength
+  pub normal-long : end * (depth / 8) ≤ length normal
+
+-- the overlay row has each pixel before `end`, where overlay counts
+abbrev pub OverlayLent : Screen → WindowEntry → List ℕ → ℕ → Type 0
+OverlayLent screen entry overlay end = overlayCounts screen entry ≡ true → end ≤ length overlay
+
+-- enough is lent for the colour of each pixel before `end`, whichever layer shows
+pub record PixelsLent (screen : Screen) (entry : WindowEntry) (store normal overlay : List ℕ) (end : ℕ) : Type 0 where
+  pub plain : PlainLent (screen .depth) entry store normal end
+  pub overlay-long : OverlayLent screen entry overlay end
 
 -- a rule has this value, whatever the rows hold
 abbrev pub OverStore : List ℕ → Rule ⊥ PixelCell ℕ → ℕ → Type 0

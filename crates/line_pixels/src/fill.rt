@@ -1,14 +1,12 @@
 // Runs of pixels with one window entry, each filled into words that are lent from its first pixel on.
-ghost use Prim.Native.Nat.{_+_, _*_, _/_, _≤_};
+ghost use Prim.Native.Nat.{_+_, _≤_};
 ghost use mathlib.Core.Path.{_≡_};
-ghost use mathlib.Core.Bool.{true};
 ghost use lib.ListN.{length};
 ghost use Rattle.rules.specs.Rule.{value};
 ghost use Rattle.rules.specs.Lists.{filled};
-ghost use Rattle.chip_registers.specs.Store.{storeLength};
 ghost use Rattle.line_pixels.specs.Cells.{pixelView};
-ghost use Rattle.line_pixels.specs.Colour.{SaidAt, overlayCounts, colourOfPixel};
-ghost use Rattle.line_pixels.specs.Inner.{OnlyPlain, FilledPlain};
+ghost use Rattle.line_pixels.specs.Colour.{colourOfPixel};
+ghost use Rattle.line_pixels.specs.Inner.{PlainLent, PixelsLent, OnlyPlain, FilledPlain};
 use crate::Screen;
 use crate::layers::plain_at;
 use crate::sampling::Sampling;
@@ -24,7 +22,7 @@ fn fill_plain(
     count: usize,
     out: &mut [u32],
 )
-    requires { ⌜ SaidAt depth entry × (length (now store) ≡ storeLength) × ((x + count) * (depth / 8) ≤ length (now normal)) × (count ≤ length (now out)) ⌝ }
+    requires { ⌜ PlainLent depth entry (now store) (now normal) (x + count) × (count ≤ length (now out)) ⌝ }
     ensures { λ _. ⌜ FilledPlain depth entry (now (store .entry)) (now (normal .entry)) x count (now (out .entry)) (now (out .exit)) ⌝ }
 {
     let sampling = Sampling::of(entry);
@@ -58,7 +56,7 @@ impl Screen {
         count: usize,
         out: &mut [u32],
     )
-        requires { ⌜ SaidAt (self .depth) entry × (length (now store) ≡ storeLength) × (x + count ≤ 65536) × ((x + count) * (self .depth / 8) ≤ length (now normal)) × (overlayCounts self entry ≡ true → x + count ≤ length (now overlay)) × (count ≤ length (now out)) ⌝ }
+        requires { ⌜ PixelsLent self entry (now store) (now normal) (now overlay) (x + count) × (x + count ≤ 65536) × (count ≤ length (now out)) ⌝ }
         ensures { λ _. ⌜ now (out .exit) ≡ filled (λ p. value (pixelView (now (store .entry)) (now (normal .entry)) (now (overlay .entry))) (colourOfPixel self entry p)) x (now (out .entry)) count ⌝ }
     {
         if self.only_plain(entry, x, count) {

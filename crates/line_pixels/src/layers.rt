@@ -1,15 +1,14 @@
 // The layers: normal, overlay and cursor, and gamma.
 ghost use Prim.Native.Nat.{_+_, _*_, _/_, _≤_, _<_};
 ghost use mathlib.Core.Path.{_≡_};
-ghost use mathlib.Core.Bool.{true};
 ghost use mathlib.Core.Logic.{_⊎_};
 ghost use lib.ListN.{length};
 ghost use Rattle.rules.specs.Rule.{get, value};
 ghost use Rattle.chip_registers.specs.Store.{storeLength};
 ghost use Rattle.line_pixels.specs.Cells.{mapEntry, pixelWord, pixelView};
-ghost use Rattle.line_pixels.specs.Colour.{SaidAt, throughGamma, normalAt, plainAt, overlayCounts, overlayAt, underCursor, colourOfPixel};
+ghost use Rattle.line_pixels.specs.Colour.{throughGamma, normalAt, plainAt, overlayCounts, overlayAt, underCursor, colourOfPixel};
 ghost use Rattle.line_pixels.specs.Sampling.{samplingOf};
-ghost use Rattle.line_pixels.specs.Inner.{OverStore, OverNormal, OverOverlay};
+ghost use Rattle.line_pixels.specs.Inner.{PlainLent, OverlayLent, PixelsLent, OverStore, OverNormal, OverOverlay};
 use crate::Screen;
 use crate::sampling::Sampling;
 use crate::store::stored;
@@ -46,7 +45,7 @@ fn mapped(store: &[u32], entry: u32) -> u32
 
 // The normal colour of a pixel.
 fn normal_at(depth: u32, sampling: Sampling, store: &[u32], normal: &[u8], x: usize) -> u32
-    requires { ⌜ SaidAt depth (sampling .entry) × (length (now store) ≡ storeLength) × ((x + 1) * (depth / 8) ≤ length (now normal)) × (sampling ≡ samplingOf (sampling .entry)) ⌝ }
+    requires { ⌜ PlainLent depth (sampling .entry) (now store) (now normal) (x + 1) × (sampling ≡ samplingOf (sampling .entry)) ⌝ }
     ensures { λ r. ⌜ OverNormal (now (store .entry)) (now (normal .entry)) (normalAt depth (sampling .entry) x) r ⌝ }
 {
     let pixel = pixel_word(depth, normal, x);
@@ -84,7 +83,7 @@ pub(crate) fn plain_at(
     normal: &[u8],
     x: usize,
 ) -> u32
-    requires { ⌜ SaidAt depth (sampling .entry) × (length (now store) ≡ storeLength) × ((x + 1) * (depth / 8) ≤ length (now normal)) × (sampling ≡ samplingOf (sampling .entry)) ⌝ }
+    requires { ⌜ PlainLent depth (sampling .entry) (now store) (now normal) (x + 1) × (sampling ≡ samplingOf (sampling .entry)) ⌝ }
     ensures { λ r. ⌜ OverNormal (now (store .entry)) (now (normal .entry)) (plainAt depth (sampling .entry) x) r ⌝ }
 {
     let colour = normal_at(depth, sampling, store, normal, x);
@@ -101,7 +100,7 @@ impl Screen {
 
     // The overlay byte of a pixel, 0 where overlay doesn't count.
     fn overlay_at(self, entry: WindowEntry, overlay: &[u8], x: usize) -> u32
-        requires { ⌜ (overlayCounts self entry ≡ true → x < length (now overlay)) ⌝ }
+        requires { ⌜ OverlayLent self entry (now overlay) (x + 1) ⌝ }
         ensures { λ r. ⌜ OverOverlay (now (overlay .entry)) (overlayAt self entry x) r × (r < 256) ⌝ }
     {
         if self.overlay_counts(entry) {
@@ -119,7 +118,7 @@ impl Screen {
         overlay: &[u8],
         x: usize,
     ) -> u32
-        requires { ⌜ SaidAt (self .depth) entry × (length (now store) ≡ storeLength) × ((x + 1) * (self .depth / 8) ≤ length (now normal)) × (overlayCounts self entry ≡ true → x < length (now overlay)) ⌝ }
+        requires { ⌜ PixelsLent self entry (now store) (now normal) (now overlay) (x + 1) ⌝ }
         ensures { λ r. ⌜ r ≡ value (pixelView (now (store .entry)) (now (normal .entry)) (now (overlay .entry))) (underCursor self entry x) ⌝ }
     {
         let byte = self.overlay_at(entry, overlay, x);
@@ -138,7 +137,7 @@ impl Screen {
         overlay: &[u8],
         x: usize,
     ) -> u32
-        requires { ⌜ SaidAt (self .depth) entry × (length (now store) ≡ storeLength) × ((x + 1) * (self .depth / 8) ≤ length (now normal)) × (overlayCounts self entry ≡ true → x < length (now overlay)) ⌝ }
+        requires { ⌜ PixelsLent self entry (now store) (now normal) (now overlay) (x + 1) ⌝ }
         ensures { λ r. ⌜ r ≡ value (pixelView (now (store .entry)) (now (normal .entry)) (now (overlay .entry))) (colourOfPixel self entry x) ⌝ }
     {
         let number = self.cursor_at(store, x);

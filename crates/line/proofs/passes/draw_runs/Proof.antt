@@ -104,11 +104,16 @@ fill-requires c κs =
     let start = loop .before .before .before .before .before .before .before in
     let given = start .args in
     rw (loop .before .screen .ensures) (
-      told .3,
-      start .pre .1 .store-long,
+      record {
+        plain =
+            record {
+              said = told .3;
+              store-long = start .pre .1 .store-long;
+              normal-long = normal-reaches (given .controls) (given .y) (now (given .store)) (now (given .table)) (now (given .normal)) (now (given .overlay)) (given .start) (loop .loop .inv) (start .pre .1) (c .before .before .before .run .given .0 .0) told (start .pre .0);
+            };
+        overlay-long = overlay-reaches (given .controls) (given .y) (now (given .store)) (now (given .table)) (now (given .normal)) (now (given .overlay)) (given .start) (loop .loop .inv) (start .pre .1) (c .before .before .before .run .given .0 .0) told;
+      },
       omega (arith, told .0, told .1, start .pre .0 .width-le),
-      normal-reaches (given .controls) (given .y) (now (given .store)) (now (given .table)) (now (given .normal)) (now (given .overlay)) (given .start) (loop .loop .inv) (start .pre .1) (c .before .before .before .run .given .0 .0) told (start .pre .0),
-      overlay-reaches (given .controls) (given .y) (now (given .store)) (now (given .table)) (now (given .normal)) (now (given .overlay)) (given .start) (loop .loop .inv) (start .pre .1) (c .before .before .before .run .given .0 .0) told,
       output-reaches (given .controls) (given .y) (now (given .store)) (now (given .table)) (now (given .normal)) (now (given .overlay)) (given .start) (loop .loop .inv) (start .pre .1) (c .before .before .before .run .given .0 .0) told,
     )
 

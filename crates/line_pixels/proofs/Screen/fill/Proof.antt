@@ -1,12 +1,12 @@
 -- `line_pixels::Screen::fill` meets its contract: a plain run where the plain colour shows at each pixel, or one pixel a turn. Assumes nothing.
-use Prim.Native.Nat.{_-_}
+use Prim.Native.Nat.{_+_, _-_, _≤_}
 use native.Mathlib.Omega.{arith}
 use borrow.Author.Needs.{needs}
 use Rattle.rules.specs.Rule.{value}
 use Rattle.rules.proofs.Fill.{Filling, fill-start, fill-next, fill-over}
 use Rattle.line_pixels.specs.Cells.{pixelView}
 use Rattle.line_pixels.specs.Colour.{colourOfPixel}
-use Rattle.line_pixels.proofs.Rows.{in-row}
+use Rattle.line_pixels.proofs.Rows.{pixels-before}
 use Rattle.line_pixels.proofs.LayersCases.{run-plain}
 use Rattle.line_pixels.proofs.Screen.fill.Statement.{statement}
 use Rattle.line_pixels.proofs.Screen.fill.Tie as tie
@@ -36,7 +36,7 @@ returns c =
     (c .before .before .fill-plain .ensures (a .overlay .now))
 
 loop-holds : tie.Need-loop-holds Inv-loop μ-loop
-loop-holds c = fill-start (c .before .before .before .before .before .before .pre .5)
+loop-holds c = fill-start (c .before .before .before .before .before .before .pre .2)
 
 add-colour-of : tie.Need-add-colour-of Inv-loop μ-loop
 add-colour-of c = omega arith
@@ -44,8 +44,8 @@ add-colour-of c = omega arith
 colour-of-requires : tie.Need-colour-of-requires Inv-loop μ-loop
 colour-of-requires c κs =
     let start = c .before .before .before .before .before .before .before .before in
-    let a = start .args in
-    (start .pre .0, start .pre .1, in-row (a .self .depth) (a .x) (a .count) (start .pre .3) (c .before .loop .i) (c .loop-test .taken), λ counts. omega (arith, start .pre .4 counts))
+    let before : start .args .x + c .before .loop .i + 1 ≤ start .args .x + start .args .count = omega (arith, c .loop-test .taken) in
+    pixels-before (start .pre .0) before
 
 mul-out : tie.Need-mul-out Inv-loop μ-loop
 mul-out c = omega arith

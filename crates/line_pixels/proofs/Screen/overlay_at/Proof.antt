@@ -21,7 +21,7 @@ overlay-counts-requires : tie.Need-overlay-counts-requires
 overlay-counts-requires c κs = search needs
 
 shared-slice-read-result : tie.Need-shared-slice-read-result
-shared-slice-read-result c = c .before .before .before .before .pre (counts (c .before))
+shared-slice-read-result c = omega (arith, c .before .before .before .before .pre (counts (c .before)))
 
 cast-result : tie.Need-cast-result
 cast-result c = omega (arith, c .shared-slice-known2 .given (c .before .before .before .before .args .x))

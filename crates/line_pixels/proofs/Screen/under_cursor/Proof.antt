@@ -15,7 +15,7 @@ of-requires c κs = search needs
 plain-at-requires : tie.Need-plain-at-requires
 plain-at-requires c κs =
     let start = c .before .before .before .before .before .before in
-    rw (c .of .ensures) (start .pre .0, start .pre .1, start .pre .2, refl)
+    rw (c .of .ensures) (start .pre .plain, refl)
 
 returns : tie.Need-returns
 returns c =

@@ -4,12 +4,11 @@ use mathlib.Core.Path.{refl}
 use mathlib.Core.List.{List, []}
 use native.Mathlib.Omega.{arith}
 use borrow.Author.Needs.{needs}
-use lib.ListN.{length}
 use Rattle.rules.specs.Rule.{value}
 use Rattle.rules.proofs.Fill.{Filling, fill-start, fill-next, fill-over}
 use Rattle.line_pixels.specs.Cells.{pixelView}
 use Rattle.line_pixels.specs.Colour.{plainAt}
-use Rattle.line_pixels.proofs.Rows.{said-says, in-row, pixels-le}
+use Rattle.line_pixels.proofs.Rows.{plain-before, pixels-le}
 use Rattle.line_pixels.proofs.fill.fill_plain.Statement.{statement}
 use Rattle.line_pixels.proofs.fill.fill_plain.Tie as tie
 
@@ -20,27 +19,20 @@ Inv-loop depth store normal x count out₀ sampling i₀ out i =
 abbrev μ-loop : tie.MeasureT-loop
 μ-loop depth store normal x count out₀ sampling i₀ out i = count - i
 
--- the run's pixels are fewer than the row's bytes
-run-below : (start : tie.Start Inv-loop μ-loop) → start .args .x + start .args .count ≤ length (start .args .normal .now)
-run-below start =
-    let a = start .args in
-    pixels-le (a .depth) (a .x) (a .count) (start .pre .2) (said-says (a .depth) (a .entry) (start .pre .0) .at-depth)
-
 of-requires : tie.Need-of-requires Inv-loop μ-loop
 of-requires c κs = search needs
 
 loop-holds : tie.Need-loop-holds Inv-loop μ-loop
-loop-holds c = λ overlay. fill-start (c .before .before .before .before .pre .3)
+loop-holds c = λ overlay. fill-start (c .before .before .before .before .pre .1)
 
 add-plain-at : tie.Need-add-plain-at Inv-loop μ-loop
-add-plain-at c = omega (arith, run-below (c .before .before .before .before .before .before))
+add-plain-at c = omega (arith, pixels-le (c .before .before .before .before .before .before .pre .0))
 
 plain-at-requires : tie.Need-plain-at-requires Inv-loop μ-loop
 plain-at-requires c κs =
     let start = c .before .before .before .before .before .before in
-    let a = start .args in
-    rw (c .before .before .of .ensures)
-    (start .pre .0, start .pre .1, in-row (a .depth) (a .x) (a .count) (start .pre .2) (c .before .loop .i) (c .loop-test .taken), refl)
+    let before : start .args .x + c .before .loop .i + 1 ≤ start .args .x + start .args .count = omega (arith, c .loop-test .taken) in
+    rw (c .before .before .of .ensures) (plain-before (start .pre .0) before, refl)
 
 mul-out : tie.Need-mul-out Inv-loop μ-loop
 mul-out c = omega (arith, c .before .before .loop .inv [])

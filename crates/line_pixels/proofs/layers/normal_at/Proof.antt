@@ -17,7 +17,7 @@ use Rattle.line_pixels.proofs.layers.normal_at.Tie as tie
 
 -- the entry fits its depth
 says : (start : tie.Start) → Says (start .args .depth) (start .args .sampling .entry)
-says start = said-says (start .args .depth) (start .args .sampling .entry) (start .pre .0)
+says start = said-says (start .args .depth) (start .args .sampling .entry) (start .pre .0 .said)
 
 -- the sample is the entry's
 sampled : (c : tie.After-bits)
@@ -25,7 +25,7 @@ sampled : (c : tie.After-bits)
     c .bits .result ≡ sampleOf (a .sampling .entry) (pixelWord (a .depth) (a .normal .now) (a .x))
 sampled c =
     let start = c .before .before .before .before in
-    let used = ap (λ (s : Sampling). s .bits) (start .pre .3) in
+    let used = ap (λ (s : Sampling). s .bits) (start .pre .1) in
     rw (← used, ← c .before .pixel-word .ensures) (c .bits .ensures .0)
 
 -- an index shows the entry that is so far from the base
@@ -35,7 +35,7 @@ indexes : (c : tie.Then1)
 indexes c =
     let start = c .before .before .before .before .before in
     let a = start .args in
-    let told = start .pre .3 in
+    let told = start .pre .1 in
     rw (sampled (c .before), ap (λ (s : Sampling). s .base) told)
     (index-shown (a .sampling .entry) (pixelWord (a .depth) (a .normal .now) (a .x)) (sym (ap (λ (s : Sampling). s .indexed) told) ∙ c .if1 .taken))
 
@@ -55,19 +55,19 @@ shows c =
     sym (c .shown .ensures ∙ ap (shownOf (a .sampling .entry)) (sampled (c .before .before)))
 
 pixel-word-requires : tie.Need-pixel-word-requires
-pixel-word-requires c κs = let start = c .before .before in (says start .at-depth, start .pre .2)
+pixel-word-requires c κs = let start = c .before .before in (says start .at-depth, start .pre .0 .normal-long)
 
 bits-requires : tie.Need-bits-requires
 bits-requires c κs =
     let start = c .before .before .before in
-    let used = ap (λ (s : Sampling). s .bits) (start .pre .3) in
+    let used = ap (λ (s : Sampling). s .bits) (start .pre .1) in
     (says start .low-lt, omega (arith, used, bits-le (start .args .sampling .entry .format)))
 
 add-mapped : tie.Need-add-mapped
 add-mapped c = omega (arith, in-map (c .before))
 
 mapped-requires : tie.Need-mapped-requires
-mapped-requires c κs = (c .before .before .before .before .before .before .pre .1, in-map (c .before))
+mapped-requires c κs = (c .before .before .before .before .before .before .pre .0 .store-long, in-map (c .before))
 
 returns : tie.Need-returns
 returns c =
@@ -87,7 +87,7 @@ mapped-requires-2 : tie.Need-mapped-requires-2
 mapped-requires-2 c κs =
     let start = c .before .before .before .before .before .before .before .before .before in
     let a = start .args in
-    (start .pre .1, map-entry-below (a .depth) (a .sampling .entry) (sampleOf (a .sampling .entry) (pixelWord (a .depth) (a .normal .now) (a .x))) (says start) (shows (c .before .before .before) ∙ c .before .shown2 .given .1))
+    (start .pre .0 .store-long, map-entry-below (a .depth) (a .sampling .entry) (sampleOf (a .sampling .entry) (pixelWord (a .depth) (a .normal .now) (a .x))) (says start) (shows (c .before .before .before) ∙ c .before .shown2 .given .1))
 
 enum-known-shown-2 : tie.Need-enum-known-shown-2
 enum-known-shown-2 c = search needs
