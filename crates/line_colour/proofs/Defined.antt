@@ -9,7 +9,7 @@ use borrow.Author.Tests.{eqb-true, leb-true}
 use lib.Dec.{eqb, leb, lit<}
 use Rattle.rules.proofs.Cases.{impossible}
 use Rattle.words.specs.Field.{field}
-use Rattle.line_formats.specs.Table.{widthsOf, formatOfNumber, rowOf, partAt, hasDepth, hasBuffer, hasBank, valueOf}
+use Rattle.line_formats.specs.Table.{widthsOf, formatOfNumber, rowOf, partAt, hasDepth, hasBuffer, hasBank, valueOf, entryInBank}
 use Rattle.line_formats.specs.declared.Format.{Format}
 use Rattle.line_formats.specs.declared.Format.the-variants.{Index8, Index12, Rgb332, Rgb444, Rgb555, Rgb888}
 use Rattle.line_formats.specs.declared.NamedFormat.{NamedFormat}
@@ -103,7 +103,7 @@ module _ (number depth : ℕ) where
 module _ (bank sample : ℕ) {shown : ℕ} where
   entry-below : (format : Format) → hasBank format bank ≡ true → shownAs format bank sample ≡ MapEntry shown → shown < 4608
   entry-below Index8 b e =
-      let same : 256 * bank + valueOf Index8 sample ≡ shown = cc in
+      let same : entryInBank bank (valueOf Index8 sample) ≡ shown = cc in
       omega (arith, leb-true bank 17 b, mod-lt (sample / 1) {m = 256} (lit< tt))
   entry-below Index12 b e = let same : valueOf Index12 sample ≡ shown = cc in omega (arith, mod-lt (sample / 1) {m = 4096} (lit< tt))
   entry-below Rgb332 b e = impossible (cc)

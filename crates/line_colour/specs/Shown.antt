@@ -1,7 +1,7 @@
 -- What a sample shows under a defined entry.
-use Prim.Native.Nat.{ℕ, _+_, _*_}
+use Prim.Native.Nat.{ℕ}
 use Rattle.words.specs.Field.{bits}
-use Rattle.line_formats.specs.Table.{widthsOf, valueOf, colourInFormat}
+use Rattle.line_formats.specs.Table.{widthsOf, valueOf, entryInBank, colourInFormat}
 use Rattle.line_formats.specs.declared.Format.{Format}
 use Rattle.line_formats.specs.declared.Format.the-variants.{Index8, Index12, Rgb332, Rgb444, Rgb555, Rgb888}
 use Rattle.line_colour.specs.declared.entry.WindowEntry.{WindowEntry}
@@ -12,9 +12,9 @@ use Rattle.line_colour.specs.declared.entry.Shown.the-variants.{MapEntry
 abbrev pub sampleOf : WindowEntry → ℕ → ℕ
 sampleOf entry pixel = bits pixel (entry .low) (widthsOf (entry .format) .bits)
 
--- format 0 is map entry 256·bank + value, format 1 is the value; the others are colours
+-- format 0 is the map entry of the value within the bank, format 1 that of the value; the others are colours
 abbrev pub shownAs : Format → ℕ → ℕ → Shown
-shownAs Index8 bank sample = MapEntry (256 * bank + valueOf Index8 sample)
+shownAs Index8 bank sample = MapEntry (entryInBank bank (valueOf Index8 sample))
 shownAs Index12 bank sample = MapEntry (valueOf Index12 sample)
 shownAs Rgb332 bank sample = Colour (colourInFormat Rgb332 sample)
 shownAs Rgb444 bank sample = Colour (colourInFormat Rgb444 sample)

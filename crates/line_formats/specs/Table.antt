@@ -1,5 +1,5 @@
 -- The table of pixel formats.
-use Prim.Native.Nat.{ℕ}
+use Prim.Native.Nat.{ℕ, _+_, _*_}
 use mathlib.Core.Bool.{Bool, true, false, cond}
 use mathlib.Core.List.{List, [], _∷_}
 use lib.Dec.{eqb, leb}
@@ -74,6 +74,10 @@ hasBank Rgb888 bank = true
 -- the value of an index
 abbrev pub valueOf : Format → ℕ → ℕ
 valueOf format sample = bits sample 0 (widthsOf format .bits)
+
+-- the map entry of a value within a bank of 256 entries
+abbrev pub entryInBank : ℕ → ℕ → ℕ
+entryInBank bank value = 256 * bank + value
 
 -- the colour of a sample with channels
 abbrev pub colourInFormat : Format → ℕ → Rgb

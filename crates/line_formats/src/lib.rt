@@ -1,9 +1,8 @@
 // Pixel formats: a type for each, with its bits.
 mod channel;
 
-ghost use Prim.Native.Nat.{_+_, _*_};
 ghost use mathlib.Core.Path.{_≡_};
-ghost use Rattle.line_formats.specs.Table.{formatOfNumber, widthsOf, partAt, hasDepth, hasBuffer, hasBank, valueOf, colourInFormat};
+ghost use Rattle.line_formats.specs.Table.{formatOfNumber, widthsOf, partAt, hasDepth, hasBuffer, hasBank, valueOf, entryInBank, colourInFormat};
 use words::Rgb;
 
 // Format 0: an 8-bit index within a bank of the map.
@@ -20,7 +19,7 @@ impl Index8 {
 
     // The map entry of a sample, in a bank.
     pub fn map_entry(bank: u8, sample: u32) -> u32
-        ensures { λ r. ⌜ r ≡ 256 * bank + valueOf Format.Index8 sample ⌝ }
+        ensures { λ r. ⌜ r ≡ entryInBank bank (valueOf Format.Index8 sample) ⌝ }
     {
         256 * (bank as u32) + words::bits(sample, 0, Self::BITS)
     }

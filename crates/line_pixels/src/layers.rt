@@ -18,6 +18,9 @@ use chip_registers::GAMMA_MAP_START;
 use chip_registers::Register;
 use line_colour::entry::Shown;
 use line_colour::entry::WindowEntry;
+use line_formats::Format;
+use line_formats::Index8;
+use line_formats::Index12;
 use words::Rgb;
 
 // A pixel of the normal row, all bits of it.
@@ -49,14 +52,19 @@ fn normal_at(depth: u32, sampling: Sampling, store: &[u32], normal: &[u8], x: us
     ensures { λ r. ⌜ OverNormal (now (store .entry)) (now (normal .entry)) (normalAt depth (sampling .entry) x) r ⌝ }
 {
     let pixel = pixel_word(depth, normal, x);
-    let sample = words::bits(pixel, sampling.entry.low, sampling.bits);
-    if sampling.indexed {
-        return mapped(store, sampling.base + sample);
-    }
-    let shown = sampling.entry.shown(sample);
-    match shown {
-        Shown::MapEntry(number) => mapped(store, number),
-        Shown::Colour(colour) => colour.word(),
+    let entry = sampling.entry;
+    let sample = words::bits(pixel, entry.low, sampling.bits);
+    let format = entry.format;
+    match format {
+        Format::Index8 => mapped(store, Index8::map_entry(entry.bank, sample)),
+        Format::Index12 => mapped(store, Index12::map_entry(sample)),
+        Format::Rgb332 | Format::Rgb444 | Format::Rgb555 | Format::Rgb888 => {
+            let shown = entry.shown(sample);
+            match shown {
+                Shown::MapEntry(number) => mapped(store, number),
+                Shown::Colour(colour) => colour.word(),
+            }
+        }
     }
 }
 
