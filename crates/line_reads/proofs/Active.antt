@@ -1,5 +1,5 @@
 -- What is listed is of active pixels, and of a colour only where the line is drawn. Assumes nothing.
-use Prim.Native.Nat.{ℕ, suc, _≤_, _<_}
+use Prim.Native.Nat.{ℕ, _≤_, _<_}
 use mathlib.Core.Path.{_≡_, refl}
 use mathlib.Core.Bool.{true}
 use mathlib.Core.List.{List}
@@ -15,15 +15,16 @@ use Rattle.line_setup.specs.Faults.{lineFaults}
 use Rattle.line_setup.specs.declared.setup.Setup.{Setup}
 use Rattle.line.specs.Cells.{ofTable, windowEntry, ofColour, Lent, view}
 use Rattle.line.specs.Line.{entriesOf, lineOf}
-use Rattle.line_reads.specs.TableList.{WindowListed, MetListed}
-use Rattle.line_reads.specs.Listed.{PixelListed, NoFrameListed, NoLineListed, RefusedListed, of-7, of-8, of-9, ListedFor, Listed}
+use Rattle.line_reads.specs.Reach.{Search, toTheOneFound, throughAll, Reach, noFrameEntry, noLineEntry, undefinedEntry}
+use Rattle.line_reads.specs.TableList.{FrameListed, WindowListed}
+use Rattle.line_reads.specs.Listed.{PixelListed, ListedTo, RefusedListed, of-7, of-8, of-9, ListedFor, Listed}
 use Rattle.line_reads.proofs.Before.{refused-unread}
 use Rattle.line_reads.proofs.Parts.{Either, at-first, at-second, either}
 use Rattle.line_reads.proofs.Passes.{StopsAt, each-stops}
 use Rattle.line_reads.proofs.Frames.{starting, no-frame, frame-number}
 use Rattle.line_reads.proofs.Pixels.{entering, RefusedPixel, without-id, undefined, pixel-refused}
 use Rattle.line_reads.proofs.Early.{NothingListed, early}
-use Rattle.line_reads.proofs.OnlyListed.{passing, answered-drawn, answered-refused}
+use Rattle.line_reads.proofs.OnlyListed.{passing, whole, answered-drawn, answered-refused}
 
 module _ (setup : Setup) (lent : Lent) where
   -- ---- a pixel that a line is refused for is active
@@ -78,7 +79,7 @@ module _ (setup : Setup) (lent : Lent) where
 
     -- a window entry that is listed for a refusal
     window-refused : {refusal : Numbered} → Placed refusal → RefusedListed setup lent refusal (windowEntry id) → WindowListed setup lent (setup .controls .width) id
-    window-refused at (of-7 is listed) = absurd listed
+    window-refused at (of-7 is listed) = widened (omega arith) listed
     window-refused at (of-8 is listed) = let below = at .at-8 is in widened (omega arith) listed
     window-refused at (of-9 is listed) = let below = at .at-9 is in widened (omega arith) listed
 
@@ -108,37 +109,28 @@ module _ (setup : Setup) (lent : Lent) where
 
   -- ---- where window IDs are off
 
-  -- a cell of the table that is listed for the pixels met
-  met-on : (met : ℕ) (cell : TableCell) → MetListed setup lent met (ofTable cell) → setup .controls .ids ≡ true
-  met-on met (yend number) listed = listed .found .on
-  met-on met (lineTable number) listed = listed .on
-  met-on met (xend byte) listed = listed .starts .on
-  met-on met (windowId byte) listed = listed .starts .on
+  -- the end of a frame entry is listed only where window IDs are on
+  frame-on : (frames : Search) (number : ℕ) → FrameListed setup lent frames number → setup .controls .ids ≡ true
+  frame-on toTheOneFound number listed = listed .found .on
+  frame-on throughAll number listed = listed .on
 
-  -- one that is listed for 7
-  no-frame-on : (cell : TableCell) → NoFrameListed setup lent (ofTable cell) → setup .controls .ids ≡ true
-  no-frame-on (yend number) listed = listed .on
-  no-frame-on (lineTable number) listed = absurd listed
-  no-frame-on (xend byte) listed = absurd listed
-  no-frame-on (windowId byte) listed = absurd listed
-
-  -- one that is listed for 8
-  no-line-on : (x : ℕ) (cell : TableCell) → NoLineListed setup lent x (ofTable cell) → setup .controls .ids ≡ true
-  no-line-on x (yend number) listed = met-on x (yend number) listed
-  no-line-on x (lineTable number) listed = met-on x (lineTable number) listed
-  no-line-on x (xend byte) listed = listed .starts .on
-  no-line-on x (windowId byte) listed = met-on x (windowId byte) listed
+  -- and so is every cell of the table, however far the line gets
+  reach-on : (reach : Reach) (cell : TableCell) → ListedTo setup lent reach (ofTable cell) → setup .controls .ids ≡ true
+  reach-on reach (yend number) listed = frame-on (reach .frames) number listed
+  reach-on reach (lineTable number) listed = listed .on
+  reach-on reach (xend byte) listed = listed .starts .on
+  reach-on reach (windowId byte) listed = listed .starts .on
 
   -- one that is listed for a refusal
   table-refused : {refusal : Numbered} (cell : TableCell) → RefusedListed setup lent refusal (ofTable cell) → setup .controls .ids ≡ true
-  table-refused cell (of-7 is listed) = no-frame-on cell listed
-  table-refused {refusal} cell (of-8 is listed) = no-line-on (placeIn refusal) cell listed
-  table-refused {refusal} cell (of-9 is listed) = met-on (suc (placeIn refusal)) cell listed
+  table-refused cell (of-7 is listed) = reach-on noFrameEntry cell listed
+  table-refused {refusal} cell (of-8 is listed) = reach-on (noLineEntry (placeIn refusal)) cell listed
+  table-refused {refusal} cell (of-9 is listed) = reach-on (undefinedEntry (placeIn refusal)) cell listed
 
   -- a cell of the table is listed only where window IDs are on
   pub table-on : (cell : TableCell) → Listed setup lent (ofTable cell) → setup .controls .ids ≡ true
   table-on cell listed = by (lineOf setup lent) listed
     where
       by : (line : Outcome Numbered (List ℕ)) → ListedFor setup lent line (ofTable cell) → setup .controls .ids ≡ true
-      by (ok colours) there = met-on (setup .controls .width) cell there
+      by (ok colours) there = reach-on (whole setup lent) cell there
       by (refused refusal) there = table-refused cell there

@@ -15,8 +15,9 @@ use Rattle.line_setup.specs.declared.setup.Setup.{Setup}
 use Rattle.line.specs.Cells.{Cell, ofTable, Lent, view}
 use Rattle.line.specs.Line.{inTable, startOf, idAt}
 use Rattle.line.proofs.Entries.{run-in-table}
-use Rattle.line_reads.specs.TableList.{FrameEntry, FrameListed, StartsAt, MetListed}
-use Rattle.line_reads.specs.Listed.{NoFrameListed}
+use Rattle.line_reads.specs.Reach.{Reach, toTheOneFound, noFrameEntry}
+use Rattle.line_reads.specs.TableList.{FrameEntry, UpToFrameEntry, StartsAt}
+use Rattle.line_reads.specs.Listed.{ListedTo}
 use Rattle.line_reads.proofs.Parts.{Among, Becomes, read-within, within-read}
 use Rattle.line_reads.proofs.LookUps.{LookedUpCell, an-end, its-cell, look-up-read, read-end, read-cell, refusal-named, refused-look-up-read, read-any-end}
 
@@ -76,36 +77,36 @@ module _ (setup : Setup) (lent : Lent) where
         subst (λ (rule : Rule Numbered Cell ℕ). Among (ofTable inner) (reads (view lent) rule)) (sym (start-on on))
         (within-read (λ (refusal : Numbered). refusal) ofTable (view lent) (lineTableOf (setup .lengths .table) (setup .y)) here)
 
-    -- what is read of the table to find the line table is listed
-    start-listed : (met : ℕ) {start : ℕ} {cell : Cell} → StartsAt setup lent start
-        → Becomes ofTable (reads (tableView (lent .table)) (lineTableOf (setup .lengths .table) (setup .y))) cell → MetListed setup lent met cell
+    -- what is read of the table to find the line table is listed of a line that finds it
+    start-listed : (reach : Reach) → reach .frames ≡ toTheOneFound → {start : ℕ} {cell : Cell} → StartsAt setup lent start
+        → Becomes ofTable (reads (tableView (lent .table)) (lineTableOf (setup .lengths .table) (setup .y))) cell → ListedTo setup lent reach cell
     unfolding lineTableOf
-    start-listed met {start} {cell} starts found =
-        subst (MetListed setup lent met) (sym (found .is))
+    start-listed reach is-found {start} {cell} starts found =
+        subst (ListedTo setup lent reach) (sym (found .is))
         (by (look-up-read (tableView (lent .table)) (numbered (NoFrameEntry (setup .y))) yend lineTable (frameEntries (setup .lengths .table)) (setup .y)
         (starts .found) (found .here)))
       where
         by : {inner : TableCell}
             → LookedUpCell (tableView (lent .table)) (numbered (NoFrameEntry (setup .y))) yend lineTable (frameEntries (setup .lengths .table)) (setup .y) inner
-            → MetListed setup lent met (ofTable inner)
+            → ListedTo setup lent reach (ofTable inner)
         by (an-end entry at number up-to is) =
-            subst (λ (inner : TableCell). MetListed setup lent met (ofTable inner)) (sym is)
-            (record { entry = entry; found = record { on = on; found = at }; up-to = up-to })
+            subst (λ (inner : TableCell). ListedTo setup lent reach (ofTable inner)) (sym is)
+            (rw is-found (record { entry = entry; found = record { on = on; found = at }; up-to = up-to }))
         by (its-cell entry at is) =
-            subst (λ (inner : TableCell). MetListed setup lent met (ofTable inner)) (sym is) (record { on = on; found = at })
+            subst (λ (inner : TableCell). ListedTo setup lent reach (ofTable inner)) (sym is) (record { on = on; found = at })
 
-  -- a cell that is read to find the line table is listed
-  pub start-read : (met : ℕ) {start : ℕ} → run (view lent) starting ≡ ok start → {cell : Cell} → Among cell (reads (view lent) starting)
-      → MetListed setup lent met cell
-  start-read met e {cell} here = by (setup .controls .ids) refl
+  -- a cell that is read to find the line table is listed of a line that finds it
+  pub start-read : (reach : Reach) → reach .frames ≡ toTheOneFound → {start : ℕ} → run (view lent) starting ≡ ok start
+      → {cell : Cell} → Among cell (reads (view lent) starting) → ListedTo setup lent reach cell
+  start-read reach is-found e {cell} here = by (setup .controls .ids) refl
     where
-      by : (test : Bool) → setup .controls .ids ≡ test → MetListed setup lent met cell
-      by true on = start-listed on met (starts-at on e) (start-inner on here)
+      by : (test : Bool) → setup .controls .ids ≡ test → ListedTo setup lent reach cell
+      by true on = start-listed on reach is-found (starts-at on e) (start-inner on here)
       by false off =
           absurd (List·Memᴰ·not-nil (subst (λ (rule : Rule Numbered Cell ℕ). Among cell (reads (view lent) rule)) (start-off off) here))
 
   -- frame entries up to the one found are read
-  pub frame-listed : {number : ℕ} → FrameListed setup lent number → Among (ofTable (yend number)) (reads (view lent) starting)
+  pub frame-listed : {number : ℕ} → UpToFrameEntry setup lent number → Among (ofTable (yend number)) (reads (view lent) starting)
   unfolding lineTableOf
   frame-listed {number} listed =
       inner-start (listed .found .on)
@@ -143,12 +144,12 @@ module _ (setup : Setup) (lent : Lent) where
         (refusal-named (tableView (lent .table)) (numbered (NoFrameEntry (setup .y))) yend lineTable (frameEntries (setup .lengths .table)) (setup .y) (lacks .none))
 
     -- all ends are read, and nothing else
-    pub no-frame-read : {cell : Cell} → Among cell (reads (view lent) starting) → NoFrameListed setup lent cell
+    pub no-frame-read : {cell : Cell} → Among cell (reads (view lent) starting) → ListedTo setup lent noFrameEntry cell
     unfolding lineTableOf
     no-frame-read {cell} here =
         let found = start-inner (lacks .on) here in
         let at = refused-look-up-read (tableView (lent .table)) (numbered (NoFrameEntry (setup .y))) yend lineTable (frameEntries (setup .lengths .table)) (setup .y) (lacks .none) (found .here) in
-        subst (NoFrameListed setup lent) (sym (found .is ∙ ap ofTable (at .is))) (record { on = lacks .on; within = at .below })
+        subst (ListedTo setup lent noFrameEntry) (sym (found .is ∙ ap ofTable (at .is))) (record { on = lacks .on; within = at .below })
 
     -- and every end is read
     pub no-frame-listed : (number : ℕ) → number < frameEntries (setup .lengths .table) → Among (ofTable (yend number)) (reads (view lent) starting)

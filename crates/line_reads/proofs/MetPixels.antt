@@ -1,7 +1,7 @@
 -- The cells of the pixels met are those listed. Assumes nothing.
-use Prim.Native.Nat.{ℕ, _-_, _<_}
+use Prim.Native.Nat.{ℕ, _-_, _≤_, _<_}
 use mathlib.Core.Path.{_≡_, refl, sym, ap, subst, _∙_}
-use mathlib.Core.Bool.{true}
+use mathlib.Core.Bool.{Bool, true, false}
 use native.Mathlib.Omega.{arith}
 use Rattle.rules.specs.Rule.{ok, run, reads}
 use Rattle.rules.proofs.Then.{run-ok}
@@ -10,32 +10,15 @@ use Rattle.refusals.specs.declared.Refusal.the-variants.{NoLineEntry}
 use Rattle.line_windows.specs.Table.{yend, lineTable, xend, windowId, tableView}
 use Rattle.line_windows.specs.Ids.{lineEntries, entryByte, endOf}
 use Rattle.line_windows.proofs.Whole.{ReachedAt, whole-tells, later-entry}
+use Rattle.line_pixels.specs.Cells.{PixelCell}
 use Rattle.line_setup.specs.declared.setup.Setup.{Setup}
 use Rattle.line.specs.Cells.{Cell, ofTable, windowEntry, ofColour, Lent, view}
-use Rattle.line_reads.specs.TableList.{StartsAt, LineEntry, HasId, LineListed, IdListed, WindowListed, MetListed}
-use Rattle.line_reads.specs.Listed.{NoLineListed}
+use Rattle.line_reads.specs.Reach.{Search, toTheOneFound, throughAll, Reach, noLineEntry}
+use Rattle.line_reads.specs.TableList.{StartsAt, LineEntry, HasId, Searched, IdListed, WindowListed}
+use Rattle.line_reads.specs.Listed.{PixelListed, ColoursListed, ListedTo}
 use Rattle.line_reads.proofs.Parts.{Among}
 use Rattle.line_reads.proofs.Frames.{starting, identifying, starts-at, starts-found, frame-listed, line-table-listed}
 use Rattle.line_reads.proofs.Pixels.{entering, OfPixel, pixel-end, pixel-id, pixel-window, entry-of, read-pixel}
-
--- where all of the line table is listed, so is what is listed of it for the pixels met
-pub met-whole : (setup : Setup) (lent : Lent) (met : ℕ) (cell : Cell) → MetListed setup lent met cell → NoLineListed setup lent met cell
-met-whole setup lent met (ofTable (yend number)) listed = listed
-met-whole setup lent met (ofTable (lineTable number)) listed = listed
-met-whole setup lent met (ofTable (xend byte)) listed =
-    let there =
-    whole-tells (tableView (lent .table)) (numbered (NoLineEntry (listed .last))) (endOf (listed .start))
-    (lineEntries (setup .lengths .table) (listed .start)) (listed .last) (listed .found) in
-    record {
-      start = listed .start;
-      starts = listed .starts;
-      number = listed .number;
-      within = omega (arith, listed .up-to, there .below);
-      stands = listed .stands;
-    }
-met-whole setup lent met (ofTable (windowId byte)) listed = listed
-met-whole setup lent met (windowEntry id) listed = listed
-met-whole setup lent met (ofColour cell) listed = absurd listed
 
 module _ (setup : Setup) (lent : Lent) {start : ℕ} (started : run (view lent) (starting setup lent) ≡ ok start) where
   -- the entry that a pixel has is reached
@@ -51,76 +34,98 @@ module _ (setup : Setup) (lent : Lent) {start : ℕ} (started : run (view lent) 
   has-id : (x : ℕ) {id : ℕ} → run (view lent) (identifying setup lent start x) ≡ ok id → HasId setup lent x id
   has-id x e = run-ok (view lent) (starting setup lent) _ started ∙ e
 
-  -- what a pixel met reads is listed
-  pub pixel-met : {met x : ℕ} {cell : Cell} → AllIds met → x < met → OfPixel setup lent start x cell → MetListed setup lent met cell
-  pixel-met {met} {x} {cell} ids is-met (pixel-end on entry found number up-to is) =
+  -- an end that a pixel met reads is one of those searched
+  searched-for : (lines : Search) {met x entry number : ℕ} → setup .controls .ids ≡ true → AllIds met → x < met → LineEntry setup lent start x entry
+      → number ≤ entry → Searched setup lent lines met start number
+  searched-for toTheOneFound {met} {x} {entry} {number} on ids is-met found up-to =
       let last : ℕ = met - 1 in
       let there = entry-of setup lent start on last (ids last (omega arith) .1) in
-      subst (MetListed setup lent met) (sym is)
-      (record {
-        start = start;
-        starts = starts-at setup lent on started;
+      record {
         last = last;
         is-last = omega arith;
         entry = there .0;
         found = there .1;
-        number = number;
         up-to = omega (arith, later-entry (reached found) (reached (there .1)) (omega arith));
+      }
+  searched-for throughAll on ids is-met found up-to = omega (arith, reached found .below)
+
+  -- what a pixel met reads is listed
+  pub pixel-met : (reach : Reach) {x : ℕ} {cell : Cell} → AllIds (reach .met) → x < reach .met → OfPixel setup lent start x cell → ListedTo setup lent reach cell
+  pixel-met reach {x} ids is-met (pixel-end on entry found number up-to is) =
+      subst (ListedTo setup lent reach) (sym is)
+      (record {
+        start = start;
+        starts = starts-at setup lent on started;
+        number = number;
+        searched = searched-for (reach .lines) on ids is-met found up-to;
         stands = refl;
       })
-  pixel-met {met} {x} {cell} ids is-met (pixel-id on entry found is) =
-      subst (MetListed setup lent met) (sym is)
+  pixel-met reach {x} ids is-met (pixel-id on entry found is) =
+      subst (ListedTo setup lent reach) (sym is)
       (record { start = start; starts = starts-at setup lent on started; pixel = x; is-met = is-met; entry = entry; found = found; stands = refl })
-  pixel-met {met} {x} {cell} ids is-met (pixel-window id found is) =
-      subst (MetListed setup lent met) (sym is) (record { pixel = x; is-met = is-met; has = has-id x found })
+  pixel-met reach {x} ids is-met (pixel-window id found is) =
+      subst (ListedTo setup lent reach) (sym is) (record { pixel = x; is-met = is-met; has = has-id x found })
 
-  -- an end of the line table
-  pub whole : (x number : ℕ) {cell : Cell} → setup .controls .ids ≡ true → number < lineEntries (setup .lengths .table) start
-      → cell ≡ ofTable (endOf start number) → NoLineListed setup lent x cell
-  whole x number on below is =
-      subst (NoLineListed setup lent x) (sym is)
-      (record { start = start; starts = starts-at setup lent on started; number = number; within = below; stands = refl })
+  -- where no line entry serves x, the end of any is listed
+  pub any-end-listed : (x number : ℕ) {cell : Cell} → setup .controls .ids ≡ true → number < lineEntries (setup .lengths .table) start
+      → cell ≡ ofTable (endOf start number) → ListedTo setup lent (noLineEntry x) cell
+  any-end-listed x number on below is =
+      subst (ListedTo setup lent (noLineEntry x)) (sym is)
+      (record { start = start; starts = starts-at setup lent on started; number = number; searched = below; stands = refl })
 
   -- ---- the other way round
 
-  -- a cell that is listed is read to find the line table, or by a pixel met
-  pub data MetBy (met : ℕ) (cell : Cell) : Type 0 where
-    for-start : Among cell (reads (view lent) (starting setup lent)) → MetBy met cell
-    by-pixel : (x : ℕ) → x < met → Among cell (reads (view lent) (entering setup lent start x)) → MetBy met cell
+  -- a cell that is listed is read to find the line table, by a pixel met, by a search of all line entries, or for a colour
+  pub data ReadFor (reach : Reach) (cell : Cell) : Type 0 where
+    for-start : Among cell (reads (view lent) (starting setup lent)) → ReadFor reach cell
+    for-pixel : (x : ℕ) → x < reach .met → Among cell (reads (view lent) (entering setup lent start x)) → ReadFor reach cell
+    for-search : reach .lines ≡ throughAll → (number : ℕ) → number < lineEntries (setup .lengths .table) start
+        → cell ≡ ofTable (endOf start number) → ReadFor reach cell
+    for-colour : reach .coloured ≡ true → (inner : PixelCell) → PixelListed setup lent inner → cell ≡ ofColour inner → ReadFor reach cell
 
   -- there is one line table
   pub same-start : {other : ℕ} → StartsAt setup lent other → other ≡ start
   same-start starts = cc (starts-found setup lent starts, started)
 
-  -- line entries up to the last pixel's
-  line-listed : {met byte : ℕ} → LineListed setup lent met byte → MetBy met (ofTable (xend byte))
-  line-listed {met} {byte} listed =
-      let same = same-start (listed .starts) in
-      by-pixel (listed .last) (omega (arith, listed .is-last))
-      (read-pixel setup lent start (listed .last)
-      (pixel-end (listed .starts .on) (listed .entry) (rw (← same) (listed .found)) (listed .number) (listed .up-to)
-      (ap (λ (at : ℕ). ofTable (xend at)) (listed .stands ∙ ap (λ (from : ℕ). entryByte from (listed .number)) same))))
+  -- the end of a line entry that is searched
+  line-listed : (reach : Reach) (number : ℕ) → setup .controls .ids ≡ true → (lines : Search) → reach .lines ≡ lines
+      → Searched setup lent lines (reach .met) start number → ReadFor reach (ofTable (endOf start number))
+  line-listed reach number on toTheOneFound is listed =
+      for-pixel (listed .last) (omega (arith, listed .is-last))
+      (read-pixel setup lent start (listed .last) (pixel-end on (listed .entry) (listed .found) number (listed .up-to) refl))
+  line-listed reach number on throughAll is listed = for-search is number listed refl
 
   -- the ID in a pixel's line entry
-  id-listed : {met byte : ℕ} → IdListed setup lent met byte → MetBy met (ofTable (windowId byte))
-  id-listed {met} {byte} listed =
+  id-listed : (reach : Reach) {byte : ℕ} → IdListed setup lent (reach .met) byte → ReadFor reach (ofTable (windowId byte))
+  id-listed reach {byte} listed =
       let same = same-start (listed .starts) in
-      by-pixel (listed .pixel) (listed .is-met)
+      for-pixel (listed .pixel) (listed .is-met)
       (read-pixel setup lent start (listed .pixel)
       (pixel-id (listed .starts .on) (listed .entry) (rw (← same) (listed .found))
       (ap (λ (at : ℕ). ofTable (windowId at)) (listed .stands ∙ ap (λ (from : ℕ). entryByte from (listed .entry)) same))))
 
   -- the window entry of a pixel's ID
-  window-listed : {met id : ℕ} → WindowListed setup lent met id → MetBy met (windowEntry id)
-  window-listed {met} {id} listed =
-      by-pixel (listed .pixel) (listed .is-met)
+  window-listed : (reach : Reach) {id : ℕ} → WindowListed setup lent (reach .met) id → ReadFor reach (windowEntry id)
+  window-listed reach {id} listed =
+      for-pixel (listed .pixel) (listed .is-met)
       (read-pixel setup lent start (listed .pixel) (pixel-window id (sym (run-ok (view lent) (starting setup lent) _ started) ∙ listed .has) refl))
 
-  -- every cell that is listed of the pixels met is read
-  pub met-listed : (met : ℕ) (cell : Cell) → MetListed setup lent met cell → MetBy met cell
-  met-listed met (ofTable (yend number)) listed = for-start (frame-listed setup lent listed)
-  met-listed met (ofTable (lineTable number)) listed = for-start (line-table-listed setup lent listed)
-  met-listed met (ofTable (xend byte)) listed = line-listed listed
-  met-listed met (ofTable (windowId byte)) listed = id-listed listed
-  met-listed met (windowEntry id) listed = window-listed listed
-  met-listed met (ofColour cell) listed = absurd listed
+  -- a cell of a colour
+  colours-listed : (reach : Reach) {cell : PixelCell} (coloured : Bool) → reach .coloured ≡ coloured → ColoursListed setup lent coloured cell
+      → ReadFor reach (ofColour cell)
+  colours-listed reach {cell} true is listed = for-colour is cell listed refl
+  colours-listed reach {cell} false is listed = absurd listed
+
+  -- every cell that is listed of a line that finds its line table is read for one of these
+  pub listed-for : (reach : Reach) → reach .frames ≡ toTheOneFound → (cell : Cell) → ListedTo setup lent reach cell → ReadFor reach cell
+  listed-for reach is-found (ofTable (yend number)) listed = for-start (frame-listed setup lent (rw is-found at listed))
+  listed-for reach is-found (ofTable (lineTable number)) listed = for-start (line-table-listed setup lent listed)
+  listed-for reach is-found (ofTable (xend byte)) listed =
+      let same = same-start (listed .starts) in
+      subst (λ (at : ℕ). ReadFor reach (ofTable (xend at)))
+      (sym (listed .stands ∙ ap (λ (from : ℕ). entryByte from (listed .number)) same))
+      (line-listed reach (listed .number) (listed .starts .on) (reach .lines) refl
+      (subst (λ (from : ℕ). Searched setup lent (reach .lines) (reach .met) from (listed .number)) same (listed .searched)))
+  listed-for reach is-found (ofTable (windowId byte)) listed = id-listed reach listed
+  listed-for reach is-found (windowEntry id) listed = window-listed reach listed
+  listed-for reach is-found (ofColour cell) listed = colours-listed reach (reach .coloured) refl listed

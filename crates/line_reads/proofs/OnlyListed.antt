@@ -18,48 +18,52 @@ use Rattle.line_pixels.specs.Colour.{colourOfPixel}
 use Rattle.line_setup.specs.Faults.{lineFaults}
 use Rattle.line_setup.specs.declared.setup.Setup.{Setup}
 use Rattle.line.specs.Screen.{screenIn}
-use Rattle.line.specs.Cells.{Cell, ofTable, windowEntry, ofColour, Lent, view}
+use Rattle.line.specs.Cells.{Cell, ofColour, Lent, view}
 use Rattle.line.specs.Line.{entriesOf, inColours, coloursOf, lineRule, lineOf}
-use Rattle.line_reads.specs.TableList.{MetListed}
-use Rattle.line_reads.specs.Listed.{DrawnListed, NoLineListed, RefusedListed, of-7, of-8, of-9, ListedFor, Listed}
+use Rattle.line_reads.specs.Reach.{Reach, drawnWhole, noLineEntry, undefinedEntry}
+use Rattle.line_reads.specs.Listed.{ListedTo, RefusedListed, of-7, of-8, of-9, ListedFor, Listed}
 use Rattle.line_reads.proofs.Before.{never-colours, unread, passes, reads-passes}
 use Rattle.line_reads.proofs.Parts.{Among, both, Either, at-first, at-second, either, Read, by-first, by-second, read-either, read-within, ReadAt, read-each, each-answers}
 use Rattle.line_reads.proofs.Passes.{StopsAt, each-stops, read-each-of}
 use Rattle.line_reads.proofs.Colours.{colour-read}
 use Rattle.line_reads.proofs.Frames.{starting, identifying, start-read, NoFrame, no-frame, frame-number, no-frame-read}
 use Rattle.line_reads.proofs.Pixels.{entering, pixel-read, entry-id, NoId, RefusedPixel, without-id, undefined, pixel-refused, no-id-read}
-use Rattle.line_reads.proofs.MetPixels.{met-whole, AllIds, pixel-met, whole}
+use Rattle.line_reads.proofs.MetPixels.{AllIds, pixel-met, any-end-listed}
 
 module _ (setup : Setup) (lent : Lent) where
   -- the pass over the pixels from the line table that starts at a byte
   abbrev pub passing : ℕ → Rule Numbered Cell (List WindowEntry)
   passing start = each (entering setup lent start) (setup .controls .width) 0
 
+  -- how far a line gets that is drawn
+  abbrev pub whole : Reach
+  whole = drawnWhole (setup .controls .width)
+
   -- ---- a first pass that answers
 
   module _ {entries : List WindowEntry} (e : run (view lent) (entriesOf setup) ≡ ok entries) where
     -- what it reads is listed of all active pixels
-    answered-read : {cell : Cell} → Among cell (reads (view lent) (entriesOf setup)) → MetListed setup lent (setup .controls .width) cell
+    answered-read : {cell : Cell} → Among cell (reads (view lent) (entriesOf setup)) → ListedTo setup lent whole cell
     unfolding entriesOf
     answered-read {cell} here = by (read-either (view lent) (starting setup lent) _ here)
       where
-        by : Read (view lent) (starting setup lent) passing cell → MetListed setup lent (setup .controls .width) cell
-        by (by-first there) = start-read setup lent (setup .controls .width) (both (view lent) (starting setup lent) passing e .found) there
+        by : Read (view lent) (starting setup lent) passing cell → ListedTo setup lent whole cell
+        by (by-first there) = start-read setup lent whole refl (both (view lent) (starting setup lent) passing e .found) there
         by (by-second start started there) =
             let at = read-each (view lent) (entering setup lent start) (setup .controls .width) 0 there in
             let answers = each-answers (view lent) (entering setup lent start) (setup .controls .width) 0 (sym (run-ok (view lent) (starting setup lent) passing started) ∙ e) in
             let ids : AllIds setup lent started (setup .controls .width) = λ i below. entry-id setup lent start i (answers i (omega arith) (omega arith) .1) in
             let below : at .position < setup .controls .width = omega (arith, at .high) in
-            pixel-met setup lent started ids below (pixel-read setup lent start (at .position) (ids (at .position) below .1) (at .here))
+            pixel-met setup lent started whole ids below (pixel-read setup lent start (at .position) (ids (at .position) below .1) (at .here))
 
     -- what the second pass then reads is listed
-    colours-read : {cell : Cell} → Among cell (reads (view lent) (coloursOf setup entries)) → DrawnListed setup lent cell
+    colours-read : {cell : Cell} → Among cell (reads (view lent) (coloursOf setup entries)) → ListedTo setup lent whole cell
     unfolding entriesOf coloursOf
     colours-read {cell} here =
         let two = both (view lent) (starting setup lent) passing e in
         let at = read-each-of (view lent) (λ entry x. inColours (colourOfPixel (screenIn setup) entry x)) (entering setup lent (two .first)) (setup .controls .width) 0 (two .next) here in
         let inner = read-within (λ (refusal : ⊥). absurd refusal) ofColour (view lent) (colourOfPixel (screenIn setup) (at .value) (at .position)) (at .here) in
-        subst (DrawnListed setup lent) (sym (inner .is))
+        subst (ListedTo setup lent whole) (sym (inner .is))
         (record {
           pixel = at .position;
           active = omega (arith, at .high);
@@ -67,12 +71,6 @@ module _ (setup : Setup) (lent : Lent) where
           has = run-ok (view lent) (starting setup lent) _ (two .found) ∙ at .found;
           listed = colour-read (λ (c : PixelCell). view lent (ofColour c)) (screenIn setup) (at .value) (at .position) (inner .here);
         })
-
-  -- what is met is listed of a drawn line
-  met-drawn : (cell : Cell) → MetListed setup lent (setup .controls .width) cell → DrawnListed setup lent cell
-  met-drawn (ofTable cell) listed = listed
-  met-drawn (windowEntry id) listed = listed
-  met-drawn (ofColour cell) listed = absurd listed
 
   -- ---- a first pass that refuses
 
@@ -111,17 +109,21 @@ module _ (setup : Setup) (lent : Lent) where
         inr (read-each (view lent) (entering setup lent start) (setup .controls .width) 0
         (subst (λ (from : ℕ). Among cell (reads (view lent) (passing from))) same there))
 
-    -- the line entries of a pixel without an ID are all read
+    -- what a pixel met reads is listed
+    met-read : (reach : Reach) → AllIds setup lent started (reach .met) → {cell : Cell}
+        → (there : ReadAt (view lent) (entering setup lent start) (setup .controls .width) 0 cell) → there .position < reach .met → ListedTo setup lent reach cell
+    met-read reach ids there is-met =
+        pixel-met setup lent started reach ids is-met (pixel-read setup lent start (there .position) (ids (there .position) is-met .1) (there .here))
+
+    -- what is read up to a pixel without an ID is listed: of that pixel all line entries
     without-id-read : NoId setup lent start (at .position) refusal → {cell : Cell}
-        → ReadAt (view lent) (entering setup lent start) (setup .controls .width) 0 cell → NoLineListed setup lent (at .position) cell
-    without-id-read lacks {cell} there =
+        → ReadAt (view lent) (entering setup lent start) (setup .controls .width) 0 cell → ListedTo setup lent (noLineEntry (at .position)) cell
+    without-id-read lacks there =
         ⊎-elim
         (λ same.
         let found = no-id-read setup lent start (at .position) lacks (rw same at (there .here)) in
-        whole setup lent started (at .position) (found .0) (lacks .on) (found .1 .0) (found .1 .1))
-        (λ before.
-        met-whole setup lent (at .position) cell
-        (pixel-met setup lent started ids-before before (pixel-read setup lent start (there .position) (ids-before (there .position) before .1) (there .here))))
+        any-end-listed setup lent started (at .position) (found .0) (lacks .on) (found .1 .0) (found .1 .1))
+        (met-read (noLineEntry (at .position)) ids-before there)
         (eq-or-lt-of-le (not-behind there))
 
     -- what is read up to the pixel that is refused is listed
@@ -129,16 +131,13 @@ module _ (setup : Setup) (lent : Lent) where
         → RefusedListed setup lent refusal cell
     stopped-read (without-id lacks is place) {cell} here =
         of-8 is
-        (subst (λ (x : ℕ). NoLineListed setup lent x cell) (sym place)
-        (⊎-elim (λ there. met-whole setup lent (at .position) cell (start-read setup lent (at .position) started there)) (without-id-read lacks) (read-parts here)))
+        (subst (λ (x : ℕ). ListedTo setup lent (noLineEntry x) cell) (sym place)
+        (⊎-elim (start-read setup lent (noLineEntry (at .position)) refl started) (without-id-read lacks) (read-parts here)))
     stopped-read (undefined id found is place) {cell} here =
-        let ids = ids-up-to found in
         of-9 is
-        (subst (λ (x : ℕ). MetListed setup lent (suc x) cell) (sym place)
-        (⊎-elim (start-read setup lent (suc (at .position)) started)
-        (λ there.
-        let below : there .position < suc (at .position) = omega (arith, not-behind there) in
-        pixel-met setup lent started ids below (pixel-read setup lent start (there .position) (ids (there .position) below .1) (there .here)))
+        (subst (λ (x : ℕ). ListedTo setup lent (undefinedEntry x) cell) (sym place)
+        (⊎-elim (start-read setup lent (undefinedEntry (at .position)) refl started)
+        (λ there. met-read (undefinedEntry (at .position)) (ids-up-to found) there (omega (arith, not-behind there)))
         (read-parts here)))
 
   -- what it reads is listed for the refusal
@@ -178,8 +177,8 @@ module _ (setup : Setup) (lent : Lent) where
   reads-listed cell here = by-verdict (verdict (lineFaults setup)) refl
     where
       by-answer : {entries : List WindowEntry} → run (view lent) (entriesOf setup) ≡ ok entries → Read (view lent) (entriesOf setup) (coloursOf setup) cell
-          → DrawnListed setup lent cell
-      by-answer e (by-first there) = met-drawn cell (answered-read e there)
+          → ListedTo setup lent whole cell
+      by-answer e (by-first there) = answered-read e there
       by-answer e (by-second entries found there) = colours-read found there
 
       by-refusal : {refusal : Numbered} → run (view lent) (entriesOf setup) ≡ refused refusal → Read (view lent) (entriesOf setup) (coloursOf setup) cell

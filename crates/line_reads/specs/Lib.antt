@@ -1,4 +1,5 @@
 pub mod Calls
+pub mod Reach
 pub mod TableList
 pub mod PixelColour
 pub mod ColourList
