@@ -113,16 +113,16 @@ fn put_text(answer: StepAnswer, output: &[u32], text: &mut [u8]) -> usize
 
 // Why a step whose text is too short is refused: 11 and 5 by the rooms, else 5 at place 6.
 fn short_of_text(
-    held: Counts,
+    counts: Counts,
     store: usize,
     table: usize,
     normal: usize,
     overlay: usize,
     output: usize,
 ) -> Refused
-    ensures { λ r. ⌜ r ≡ orText (verdict (lentFaults held store table normal overlay output)) ⌝ }
+    ensures { λ r. ⌜ r ≡ orText (verdict (lentFaults counts store table normal overlay output)) ⌝ }
 {
-    let allowed = step_check(held, store, table, normal, overlay, output);
+    let allowed = step_check(counts, store, table, normal, overlay, output);
     match allowed {
         Answer::Refused(refusal) => refused_by(refusal),
         Answer::Done => Refused {
@@ -149,13 +149,9 @@ pub extern "C" fn bulitampaw_step(
     ensures { λ r. ⌜ (r, (roomsOf (now (store .exit)) (now (table .exit)) (now (normal .exit)) (now (overlay .exit)) (now (output .exit)), now (text .exit))) ≡ stepInNumbers session (roomsOf (now (store .entry)) (now (table .entry)) (now (normal .entry)) (now (overlay .entry)) (now (output .entry))) (now (text .entry)) (now (bytes .entry)) place (not (eqb last 0)) ⌝ }
 {
     if text.len() < 14368 {
-        let held = Counts {
-            table: session.table,
-            normal: session.normal,
-            overlay: session.overlay,
-        };
+        let counts = session.counts;
         let refusal = short_of_text(
-            held,
+            counts,
             store.len(),
             table.len(),
             normal.len(),

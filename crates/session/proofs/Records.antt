@@ -17,7 +17,7 @@ use Rattle.line.specs.Cells.{lentOf}
 use Rattle.line.specs.Request.{requestOf}
 use Rattle.line.specs.Drawn.{drawn}
 use Rattle.session.specs.Record.{entryOf, atPosition}
-use Rattle.session.specs.Lent.{Rooms, roomsOf, heldIn}
+use Rattle.session.specs.Lent.{Rooms, roomsOf, countsOf, heldIn}
 use Rattle.session.specs.Inner.{withCounts, counted, askedIn, Within, actedIn}
 use Rattle.session.specs.declared.session.Session.{Session}
 use Rattle.session.proofs.Rooms.{back, back-chip, back-line, back-table, back-normal, back-overlay}
@@ -61,8 +61,8 @@ module _ (session : Session) (rooms : Rooms) (body : List ℕ) (within : Within 
   -- table bytes
   pub acts-table :
       come-to (listed saysOk) (
-        counted (withCounts session (session .table + length body) (session .normal) (session .overlay)),
-        roomsOf (rooms .store) (paste (rooms .table) (session .table) body (length body)) (rooms .normal) (rooms .overlay) (rooms .output),
+        counted (withCounts session (countsOf (session .counts .table + length body) (session .counts .normal) (session .counts .overlay))),
+        roomsOf (rooms .store) (paste (rooms .table) (session .counts .table) body (length body)) (rooms .normal) (rooms .overlay) (rooms .output),
       )
       ≡ actedIn session rooms Table body
   unfolding actedIn
@@ -71,7 +71,7 @@ module _ (session : Session) (rooms : Rooms) (body : List ℕ) (within : Within 
   -- a normal row
   pub acts-normal :
       come-to (listed saysOk) (
-        counted (withCounts session (session .table) (length body) (session .overlay)),
+        counted (withCounts session (countsOf (session .counts .table) (length body) (session .counts .overlay))),
         roomsOf (rooms .store) (rooms .table) (paste (rooms .normal) 0 body (length body)) (rooms .overlay) (rooms .output),
       )
       ≡ actedIn session rooms Normal body
@@ -81,7 +81,7 @@ module _ (session : Session) (rooms : Rooms) (body : List ℕ) (within : Within 
   -- an overlay row
   pub acts-overlay :
       come-to (listed saysOk) (
-        counted (withCounts session (session .table) (session .normal) (length body)),
+        counted (withCounts session (countsOf (session .counts .table) (session .counts .normal) (length body))),
         roomsOf (rooms .store) (rooms .table) (rooms .normal) (paste (rooms .overlay) 0 body (length body)) (rooms .output),
       )
       ≡ actedIn session rooms Overlay body

@@ -7,7 +7,7 @@ use lib.ListN.{length, take, drop, length-append, take-append-drop}
 use lib.Seq.{paste, length-take-le, take-length}
 use Rattle.chip.specs.Call.{Chip}
 use Rattle.session.specs.Held.{withChip, withTable, withNormal, withOverlay, withLine}
-use Rattle.session.specs.Lent.{Rooms, roomsOf, heldIn, laid, leftIn}
+use Rattle.session.specs.Lent.{Rooms, roomsOf, countsOf, heldIn, laid, leftIn}
 use Rattle.session.specs.Inner.{withState, withCounts, counted, Within}
 use Rattle.session.specs.declared.session.Session.{Session}
 
@@ -35,24 +35,24 @@ laid-anew room bytes =
 
 module _ (session : Session) (rooms : Rooms) (within : Within session rooms) where
   -- what is held of table and rows, put back as it was
-  table-back : laid (rooms .table) (take (session .table) (rooms .table)) ≡ rooms .table
-  table-back = laid-same (rooms .table) (session .table) (within .table-within)
+  table-back : laid (rooms .table) (take (session .counts .table) (rooms .table)) ≡ rooms .table
+  table-back = laid-same (rooms .table) (session .counts .table) (within .table-within)
 
-  normal-back : laid (rooms .normal) (take (session .normal) (rooms .normal)) ≡ rooms .normal
-  normal-back = laid-same (rooms .normal) (session .normal) (within .normal-within)
+  normal-back : laid (rooms .normal) (take (session .counts .normal) (rooms .normal)) ≡ rooms .normal
+  normal-back = laid-same (rooms .normal) (session .counts .normal) (within .normal-within)
 
-  overlay-back : laid (rooms .overlay) (take (session .overlay) (rooms .overlay)) ≡ rooms .overlay
-  overlay-back = laid-same (rooms .overlay) (session .overlay) (within .overlay-within)
+  overlay-back : laid (rooms .overlay) (take (session .counts .overlay) (rooms .overlay)) ≡ rooms .overlay
+  overlay-back = laid-same (rooms .overlay) (session .counts .overlay) (within .overlay-within)
 
   -- and counted
-  pub table-count : length (take (session .table) (rooms .table)) ≡ session .table
-  table-count = length-take-le (session .table) (rooms .table) (within .table-within)
+  pub table-count : length (take (session .counts .table) (rooms .table)) ≡ session .counts .table
+  table-count = length-take-le (session .counts .table) (rooms .table) (within .table-within)
 
-  normal-count : length (take (session .normal) (rooms .normal)) ≡ session .normal
-  normal-count = length-take-le (session .normal) (rooms .normal) (within .normal-within)
+  normal-count : length (take (session .counts .normal) (rooms .normal)) ≡ session .counts .normal
+  normal-count = length-take-le (session .counts .normal) (rooms .normal) (within .normal-within)
 
-  overlay-count : length (take (session .overlay) (rooms .overlay)) ≡ session .overlay
-  overlay-count = length-take-le (session .overlay) (rooms .overlay) (within .overlay-within)
+  overlay-count : length (take (session .counts .overlay) (rooms .overlay)) ≡ session .counts .overlay
+  overlay-count = length-take-le (session .counts .overlay) (rooms .overlay) (within .overlay-within)
 
   -- all as it was
   pub back : leftIn rooms (heldIn session rooms) ≡ (session, rooms)
@@ -72,15 +72,15 @@ module _ (session : Session) (rooms : Rooms) (within : Within session rooms) whe
 
   -- with table bytes appended
   pub back-table : (bytes : List ℕ)
-      → leftIn rooms (withTable (heldIn session rooms) (take (session .table) (rooms .table) ++ bytes))
+      → leftIn rooms (withTable (heldIn session rooms) (take (session .counts .table) (rooms .table) ++ bytes))
       ≡ (
-        counted (withCounts session (session .table + length bytes) (session .normal) (session .overlay)),
-        roomsOf (rooms .store) (paste (rooms .table) (session .table) bytes (length bytes)) (rooms .normal) (rooms .overlay) (rooms .output),
+        counted (withCounts session (countsOf (session .counts .table + length bytes) (session .counts .normal) (session .counts .overlay))),
+        roomsOf (rooms .store) (paste (rooms .table) (session .counts .table) bytes (length bytes)) (rooms .normal) (rooms .overlay) (rooms .output),
       )
   back-table bytes =
       rw (
-        laid-behind (rooms .table) bytes (session .table) (within .table-within),
-        count-behind (rooms .table) bytes (session .table) (within .table-within),
+        laid-behind (rooms .table) bytes (session .counts .table) (within .table-within),
+        count-behind (rooms .table) bytes (session .counts .table) (within .table-within),
         normal-back,
         overlay-back,
         normal-count,
@@ -91,7 +91,7 @@ module _ (session : Session) (rooms : Rooms) (within : Within session rooms) whe
   pub back-normal : (bytes : List ℕ)
       → leftIn rooms (withNormal (heldIn session rooms) bytes)
       ≡ (
-        counted (withCounts session (session .table) (length bytes) (session .overlay)),
+        counted (withCounts session (countsOf (session .counts .table) (length bytes) (session .counts .overlay))),
         roomsOf (rooms .store) (rooms .table) (paste (rooms .normal) 0 bytes (length bytes)) (rooms .overlay) (rooms .output),
       )
   back-normal bytes = rw (laid-anew (rooms .normal) bytes, table-back, overlay-back, table-count, overlay-count) refl
@@ -100,7 +100,7 @@ module _ (session : Session) (rooms : Rooms) (within : Within session rooms) whe
   pub back-overlay : (bytes : List ℕ)
       → leftIn rooms (withOverlay (heldIn session rooms) bytes)
       ≡ (
-        counted (withCounts session (session .table) (session .normal) (length bytes)),
+        counted (withCounts session (countsOf (session .counts .table) (session .counts .normal) (length bytes))),
         roomsOf (rooms .store) (rooms .table) (rooms .normal) (paste (rooms .overlay) 0 bytes (length bytes)) (rooms .output),
       )
   back-overlay bytes = rw (laid-anew (rooms .overlay) bytes, table-back, normal-back, table-count, normal-count) refl

@@ -39,9 +39,9 @@ use Rattle.session.proofs.Rooms.{table-count, back}
 
 -- what a step that may go on is lent
 pub record Fitted (session : Session) (rooms : Rooms) : Type 0 where
-  pub table-held : session .table ≤ longestTable
-  pub normal-held : session .normal ≤ longestNormal
-  pub overlay-held : session .overlay ≤ longestOverlay
+  pub table-held : session .counts .table ≤ longestTable
+  pub normal-held : session .counts .normal ≤ longestNormal
+  pub overlay-held : session .counts .overlay ≤ longestOverlay
   pub table-long : length (rooms .table) ≡ longestTable
   pub normal-long : length (rooms .normal) ≡ longestNormal
   pub overlay-long : length (rooms .overlay) ≡ longestOverlay
@@ -56,12 +56,12 @@ module _ (session : Session) (rooms : Rooms) where
   unfolding roomFaults tooMuchHeld
   fitted e =
       let clear = clear-verdict (stepFaults session rooms) e in
-      let rows = neither (ltb longestTable (session .table) || ltb longestNormal (session .normal)) (ltb longestOverlay (session .overlay)) (clear .0) in
-      let first = neither (ltb longestTable (session .table)) (ltb longestNormal (session .normal)) (rows .0) in
+      let rows = neither (ltb longestTable (session .counts .table) || ltb longestNormal (session .counts .normal)) (ltb longestOverlay (session .counts .overlay)) (clear .0) in
+      let first = neither (ltb longestTable (session .counts .table)) (ltb longestNormal (session .counts .normal)) (rows .0) in
       record {
-        table-held = ltb-false longestTable (session .table) (first .0);
-        normal-held = ltb-false longestNormal (session .normal) (first .1);
-        overlay-held = ltb-false longestOverlay (session .overlay) (rows .1);
+        table-held = ltb-false longestTable (session .counts .table) (first .0);
+        normal-held = ltb-false longestNormal (session .counts .normal) (first .1);
+        overlay-held = ltb-false longestOverlay (session .counts .overlay) (rows .1);
         table-long = right-room _ _ (clear .1 .1 .0);
         normal-long = right-room _ _ (clear .1 .1 .1 .0);
         overlay-long = right-room _ _ (clear .1 .1 .1 .1 .0);
@@ -98,7 +98,7 @@ body-long bytes place count there =
 module _ (session : Session) (rooms : Rooms) (last : Bool) where
   -- what the record is judged by, as the code puts it together
   abbrev pub judgedBy : Context
-  judgedBy = judgedAt (session .records) (session .table) last
+  judgedBy = judgedAt (session .records) (session .counts .table) last
 
   module _ (fit : Fitted session rooms) (unread : List ℕ) where
     -- there is room for the body of each record

@@ -10,42 +10,22 @@ use Rattle.session_records.specs.declared.record.Record.{Record}
 use Rattle.session_records.specs.declared.record.Record.the-variants.{End, Write, Dots, Table, Normal, Overlay, Line}
 use Rattle.session_listing.specs.Text.{EntrySays}
 use Rattle.session_answers.specs.Status.{Status, listed}
+use Rattle.session_rooms.specs.declared.Counts.{Counts}
 use Rattle.session.specs.Record.{entryOf, acted}
 use Rattle.session.specs.Lent.{Rooms, heldIn, leftIn}
 use Rattle.session.specs.declared.session.Session.{Session}
 
 -- with this state
 abbrev pub withState : Session → State → Session
-withState session state =
-    record {
-      state = state;
-      table = session .table;
-      normal = session .normal;
-      overlay = session .overlay;
-      records = session .records;
-    }
+withState session state = record { state = state; counts = session .counts; records = session .records }
 
 -- with so many bytes of table and rows
-abbrev pub withCounts : Session → ℕ → ℕ → ℕ → Session
-withCounts session table normal overlay =
-    record {
-      state = session .state;
-      table = table;
-      normal = normal;
-      overlay = overlay;
-      records = session .records;
-    }
+abbrev pub withCounts : Session → Counts → Session
+withCounts session counts = record { state = session .state; counts = counts; records = session .records }
 
 -- after one more record
 abbrev pub counted : Session → Session
-counted session =
-    record {
-      state = session .state;
-      table = session .table;
-      normal = session .normal;
-      overlay = session .overlay;
-      records = session .records + 1;
-    }
+counted session = record { state = session .state; counts = session .counts; records = session .records + 1 }
 
 -- after one more record, which lists this entry
 abbrev pub listedIn : Session → EntrySays → Session × Outcome Numbered Status
@@ -57,16 +37,16 @@ askedIn session entry after = ((counted (withState session (after .0 .0)), after
 
 -- what is held lies within the rooms
 pub record Within (session : Session) (rooms : Rooms) : Type 0 where
-  pub table-within : session .table ≤ length (rooms .table)
-  pub normal-within : session .normal ≤ length (rooms .normal)
-  pub overlay-within : session .overlay ≤ length (rooms .overlay)
+  pub table-within : session .counts .table ≤ length (rooms .table)
+  pub normal-within : session .counts .normal ≤ length (rooms .normal)
+  pub overlay-within : session .counts .overlay ≤ length (rooms .overlay)
 
 -- there is room for a record's body
 abbrev pub BodyFits : Session → Rooms → Record → List ℕ → Type 0
 BodyFits session rooms End body = Unit {0}
 BodyFits session rooms (Write address value) body = Unit {0}
 BodyFits session rooms (Dots count) body = Unit {0}
-BodyFits session rooms Table body = session .table + length body ≤ length (rooms .table)
+BodyFits session rooms Table body = session .counts .table + length body ≤ length (rooms .table)
 BodyFits session rooms Normal body = length body ≤ length (rooms .normal)
 BodyFits session rooms Overlay body = length body ≤ length (rooms .overlay)
 BodyFits session rooms (Line y) body = Unit {0}

@@ -2,6 +2,7 @@
 use Prim.Native.Nat.{ℕ}
 use mathlib.Core.List.{List, _++_}
 use lib.ListN.{length, take, drop}
+use Rattle.session_rooms.specs.declared.Counts.{Counts}
 use Rattle.session.specs.Held.{Held}
 use Rattle.session.specs.declared.session.Session.{Session}
 
@@ -24,14 +25,18 @@ roomsOf store table normal overlay output =
       output = output;
     }
 
+-- so many bytes of table, normal row and overlay row as one
+abbrev pub countsOf : ℕ → ℕ → ℕ → Counts
+countsOf table normal overlay = record { table = table; normal = normal; overlay = overlay }
+
 -- what is held: of table and rows the bytes that are there
 abbrev pub heldIn : Session → Rooms → Held
 heldIn session rooms =
     record {
       chip = (session .state, rooms .store);
-      table = take (session .table) (rooms .table);
-      normal = take (session .normal) (rooms .normal);
-      overlay = take (session .overlay) (rooms .overlay);
+      table = take (session .counts .table) (rooms .table);
+      normal = take (session .counts .normal) (rooms .normal);
+      overlay = take (session .counts .overlay) (rooms .overlay);
       output = rooms .output;
       records = session .records;
     }
@@ -56,9 +61,7 @@ abbrev pub sessionOf : Held → Session
 sessionOf held =
     record {
       state = held .chip .0;
-      table = length (held .table);
-      normal = length (held .normal);
-      overlay = length (held .overlay);
+      counts = countsOf (length (held .table)) (length (held .normal)) (length (held .overlay));
       records = held .records;
     }
 

@@ -7,19 +7,14 @@ use Rattle.rules.specs.Rule.{Outcome}
 use Rattle.rules.specs.Faults.{Numbered, Fault, unless}
 use Rattle.session_answers.specs.Status.{Status}
 use Rattle.session_rooms.specs.Rooms.{lentFaults}
-use Rattle.session_rooms.specs.declared.Counts.{Counts}
 use Rattle.session.specs.Record.{stepped}
 use Rattle.session.specs.Lent.{Rooms, heldIn, roomsWith, sessionOf}
 use Rattle.session.specs.declared.session.Session.{Session}
 
--- how much of table and rows a session holds
-abbrev pub countsOf : Session → Counts
-countsOf session = record { table = session .table; normal = session .normal; overlay = session .overlay }
-
 -- 11, 5
 abbrev pub stepFaults : Session → Rooms → List Fault
 stepFaults session rooms =
-    lentFaults (countsOf session)
+    lentFaults (session .counts)
     (length (rooms .store)) (length (rooms .table)) (length (rooms .normal)) (length (rooms .overlay)) (length (rooms .output))
 
 -- the session, the place of the next record, and the rooms

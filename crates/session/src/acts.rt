@@ -26,6 +26,7 @@ use refusals::Answer;
 use session_answers::StepAnswer;
 use session_listing::entry::ListingEntry;
 use session_records::record::Record;
+use session_rooms::Counts;
 
 // The session after a record, and its answer.
 pub struct Acted {
@@ -84,13 +85,11 @@ impl Session {
     }
 
     // After one more record, which left so many bytes of table and rows.
-    fn holding(mut self, table: usize, normal: usize, overlay: usize) -> Acted
+    fn holding(mut self, counts: Counts) -> Acted
         requires { ⌜ self .records < 1000000 ⌝ }
-        ensures { λ r. ⌜ (r .session, stepOutcome (r .answer)) ≡ listedIn (withCounts self table normal overlay) saysOk ⌝ }
+        ensures { λ r. ⌜ (r .session, stepOutcome (r .answer)) ≡ listedIn (withCounts self counts) saysOk ⌝ }
     {
-        self.table = table;
-        self.normal = normal;
-        self.overlay = overlay;
+        self.counts = counts;
         self.listed(ListingEntry::Ok)
     }
 
@@ -132,12 +131,13 @@ impl Session {
     ) -> Acted
         requires { ⌜ self .records < 1000000 ⌝ }
         requires { ⌜ Within self (roomsOf (now store) (now table) (now normal) (now overlay) (now output)) ⌝ }
-        ensures { λ r. ⌜ ((r .session, now (output .exit)), stepOutcome (r .answer)) ≡ askedIn self (saysLine y (controlsOf (self .state .control) .width)) (drawn (requestOf (self .state) y) (lentOf (now (store .entry)) (take (self .table) (now (table .entry))) (take (self .normal) (now (normal .entry))) (take (self .overlay) (now (overlay .entry)))) (now (output .entry))) ⌝ }
+        ensures { λ r. ⌜ ((r .session, now (output .exit)), stepOutcome (r .answer)) ≡ askedIn self (saysLine y (controlsOf (self .state .control) .width)) (drawn (requestOf (self .state) y) (lentOf (now (store .entry)) (take (self .counts .table) (now (table .entry))) (take (self .counts .normal) (now (normal .entry))) (take (self .counts .overlay) (now (overlay .entry)))) (now (output .entry))) ⌝ }
     {
         let state = self.state;
-        let table_end = self.table;
-        let normal_end = self.normal;
-        let overlay_end = self.overlay;
+        let counts = self.counts;
+        let table_end = counts.table;
+        let normal_end = counts.normal;
+        let overlay_end = counts.overlay;
         let request = Request { state, y };
         let drawn = line::draw::draw(
             request,
@@ -182,17 +182,22 @@ impl Session {
             Record::Write { address, value } => self.write(store, address, value),
             Record::Dots(count) => self.dots(store, count),
             Record::Table => {
-                let held = self.table;
-                keep(table, held, body);
-                self.holding(held + body.len(), self.normal, self.overlay)
+                let mut counts = self.counts;
+                keep(table, counts.table, body);
+                counts.table += body.len();
+                self.holding(counts)
             }
             Record::Normal => {
+                let mut counts = self.counts;
                 keep(normal, 0, body);
-                self.holding(self.table, body.len(), self.overlay)
+                counts.normal = body.len();
+                self.holding(counts)
             }
             Record::Overlay => {
+                let mut counts = self.counts;
                 keep(overlay, 0, body);
-                self.holding(self.table, self.normal, body.len())
+                counts.overlay = body.len();
+                self.holding(counts)
             }
             Record::Line(y) => self.line(y, store, table, normal, overlay, output),
         }

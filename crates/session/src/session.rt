@@ -3,14 +3,16 @@ ghost use mathlib.Core.Path.{_≡_};
 ghost use Rattle.session.specs.Held.{nothingHeld};
 ghost use Rattle.session.specs.Lent.{sessionOf};
 use chip::state::State;
+use session_rooms::Counts;
 
-// The chip's state, how many bytes of the lent table and rows are there, and how many records stood before the next one.
+// A session between two records.
 #[repr(C)]
 pub struct Session {
+    // The chip's state.
     pub state: State,
-    pub table: usize,
-    pub normal: usize,
-    pub overlay: usize,
+    // How many bytes of the lent table and rows are there.
+    pub counts: Counts,
+    // How many records stood before the next one.
     pub records: u32,
 }
 
@@ -20,11 +22,14 @@ impl Session {
         ensures { λ r. ⌜ r ≡ sessionOf nothingHeld ⌝ }
     {
         let state = State::new();
-        Self {
-            state,
+        let counts = Counts {
             table: 0,
             normal: 0,
             overlay: 0,
+        };
+        Self {
+            state,
+            counts,
             records: 0,
         }
     }

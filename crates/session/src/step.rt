@@ -8,7 +8,6 @@ use refusals::Answer;
 use session_answers::StepAnswer;
 use session_records::record::Context;
 use session_records::record::RecordAt;
-use session_rooms::Counts;
 use session_rooms::step_check;
 
 // The session that a step hands back, the place of the next record, and the answer.
@@ -32,12 +31,7 @@ pub fn step(
 ) -> Stepped
     ensures { λ r. ⌜ (((r .session, r .place), roomsOf (now (store .exit)) (now (table .exit)) (now (normal .exit)) (now (overlay .exit)) (now (output .exit))), stepOutcome (r .answer)) ≡ sessionStep session (roomsOf (now (store .entry)) (now (table .entry)) (now (normal .entry)) (now (overlay .entry)) (now (output .entry))) (now (bytes .entry)) place last ⌝ }
 {
-    let held = session.table;
-    let counts = Counts {
-        table: held,
-        normal: session.normal,
-        overlay: session.overlay,
-    };
+    let counts = session.counts;
     let allowed = step_check(
         counts,
         store.len(),
@@ -55,7 +49,7 @@ pub fn step(
     }
     let context = Context {
         number: session.records,
-        table: held,
+        table: counts.table,
         last,
     };
     let found = session_reader::read(bytes, place, context);

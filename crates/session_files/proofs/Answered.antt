@@ -44,9 +44,9 @@ roomy-clear {session} {rooms} ready =
     let inside = ready .within in
     let roomy = ready .roomy in (
       rw (
-        le-ltb longestTable (session .table) (omega (arith, right .table-long, inside .table-within)),
-        le-ltb longestNormal (session .normal) (omega (arith, right .normal-long, inside .normal-within)),
-        le-ltb longestOverlay (session .overlay) (omega (arith, right .overlay-long, inside .overlay-within)),
+        le-ltb longestTable (session .counts .table) (omega (arith, right .table-long, inside .table-within)),
+        le-ltb longestNormal (session .counts .normal) (omega (arith, right .normal-long, inside .normal-within)),
+        le-ltb longestOverlay (session .counts .overlay) (omega (arith, right .overlay-long, inside .overlay-within)),
       ) refl,
       (
         rw (eq-eqb (length (rooms .store)) storeLength (roomy .store-long)) refl,

@@ -34,5 +34,5 @@ roomFaults store table normal overlay output =
 
 -- 11, 5
 abbrev pub lentFaults : Counts → ℕ → ℕ → ℕ → ℕ → ℕ → List Fault
-lentFaults held store table normal overlay output =
-    fault BadState (tooMuchHeld (held .table) (held .normal) (held .overlay)) ∷ roomFaults store table normal overlay output
+lentFaults counts store table normal overlay output =
+    fault BadState (tooMuchHeld (counts .table) (counts .normal) (counts .overlay)) ∷ roomFaults store table normal overlay output

@@ -6,10 +6,14 @@ ghost use Rattle.session_rooms.specs.Rooms.{tooMuchHeld, roomFaults, len
 use refusals::Answer;
 use refusals::Refusal;
 
-// How many bytes of table and rows are there.
+// How many bytes of the lent table and rows are there.
+#[repr(C)]
 pub struct Counts {
+    // Of the ID table.
     pub table: usize,
+    // Of the normal row.
     pub normal: usize,
+    // Of the overlay row.
     pub overlay: usize,
 }
 
@@ -50,16 +54,16 @@ fn rooms_check(store: usize, table: usize, normal: usize, overlay: usize, output
 
 // Whether a step may go on with what it is lent: 11, and then 5.
 pub fn step_check(
-    held: Counts,
+    counts: Counts,
     store: usize,
     table: usize,
     normal: usize,
     overlay: usize,
     output: usize,
 ) -> Answer
-    ensures { λ r. ⌜ answerOutcome r ≡ verdict (lentFaults held store table normal overlay output) ⌝ }
+    ensures { λ r. ⌜ answerOutcome r ≡ verdict (lentFaults counts store table normal overlay output) ⌝ }
 {
-    if too_much_held(held.table, held.normal, held.overlay) {
+    if too_much_held(counts.table, counts.normal, counts.overlay) {
         return Answer::Refused(Refusal::BadState);
     }
     rooms_check(store, table, normal, overlay, output)

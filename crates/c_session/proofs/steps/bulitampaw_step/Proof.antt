@@ -13,10 +13,10 @@ short-of-text-requires c κs = search needs
 
 returns : tie.Need-returns
 returns c =
-    let given = c .before .before .before .before .before .before .before .before .before .args in
+    let given = c .before .before .before .before .before .before .before .before .before .before .args in
     let rooms = roomsOf (now (given .store)) (now (given .table)) (now (given .normal)) (now (given .overlay)) (now (given .output)) in
     rw (c .short-of-text .ensures)
-    (step-short (given .session) rooms (now (given .text)) (now (given .bytes)) (given .place) (not (eqb (given .last) 0)) (c .before .if1 .taken))
+    (step-short (given .session) rooms (now (given .text)) (now (given .bytes)) (given .place) (not (eqb (given .last) 0)) (c .before .before .if1 .taken))
 
 step-requires : tie.Need-step-requires
 step-requires c κs = search needs

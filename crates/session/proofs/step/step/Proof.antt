@@ -25,7 +25,7 @@ enum-known-allowed c = search needs
 returns : tie.Need-returns
 returns c =
     let tested = c .before .before .before in
-    let given = tested .before .before .before .before .before .before .before .args in
+    let given = tested .before .before .before .before .before .before .before .before .args in
     let rooms = roomsOf (now (given .store)) (now (given .table)) (now (given .normal)) (now (given .overlay)) (now (given .output)) in
     step-refused (given .session) rooms (now (given .bytes)) (given .place) (given .last) (c .before .allowed .given .0 .0)
     (subst (λ (answer : Answer). answerOutcome answer ≡ verdict (stepFaults (given .session) rooms)) (c .before .allowed .given .1) (tested .step-check .ensures))
@@ -41,20 +41,20 @@ enum-known-found c = search needs
 
 -- the bytes of a record that was found end within the lent ones
 inside-at : (c : tie.After-known-told2) →
-    let given = c .before .before .before .before .before .before .before .before .before .before .before .before .before .args in
+    let given = c .before .before .before .before .before .before .before .before .before .before .before .before .before .before .args in
     given .place + 3 + c .before .found .given .0 .1 .0 ≤ length (now (given .bytes))
 inside-at c =
-    let given = c .before .before .before .before .before .before .before .before .before .before .before .before .before .args in
+    let given = c .before .before .before .before .before .before .before .before .before .before .before .before .before .before .args in
     let rooms = roomsOf (now (given .store)) (now (given .table)) (now (given .normal)) (now (given .overlay)) (now (given .output)) in
     let is = sym (c .before .before .before .read .ensures) ∙ c .before .found .given .1 in
     let accepted = found-accepted (judgedBy (given .session) rooms (given .last)) (drop (given .place) (now (given .bytes))) is in
     ends-within (now (given .bytes)) (given .place) (c .before .found .given .0 .1 .0) (accepted .there)
 
 add-start : tie.Need-add-start
-add-start c = let inside = inside-at c in let good = c .before .before .before .before .before .before .before .before .before .before .before .before .before .good in search needs
+add-start c = let inside = inside-at c in let good = c .before .before .before .before .before .before .before .before .before .before .before .before .before .before .good in search needs
 
 add-end : tie.Need-add-end
-add-end c = let inside = inside-at c in let good = c .before .before .before .before .before .before .before .before .before .before .before .before .before .good in search needs
+add-end c = let inside = inside-at c in let good = c .before .before .before .before .before .before .before .before .before .before .before .before .before .before .good in search needs
 
 sub-act : tie.Need-sub-act
 sub-act c = search needs
@@ -63,12 +63,12 @@ part-act-start : tie.Need-part-act-start
 part-act-start c = search needs
 
 part-act-end : tie.Need-part-act-end
-part-act-end c = let inside = inside-at c in let good = c .before .before .before .before .before .before .before .before .before .before .before .before .before .good in search needs
+part-act-end c = let inside = inside-at c in let good = c .before .before .before .before .before .before .before .before .before .before .before .before .before .before .good in search needs
 
 act-requires : tie.Need-act-requires
 act-requires c κs =
     let tested = c .before .before .before .before .before .before .before .before .before .before .before .before in
-    let given = tested .before .before .before .before .before .before .before .args in
+    let given = tested .before .before .before .before .before .before .before .before .args in
     let rooms = roomsOf (now (given .store)) (now (given .table)) (now (given .normal)) (now (given .overlay)) (now (given .output)) in
     let asked = c .before .before .before .before .before .before .before .before .before in
     let found-at = c .before .before .before .before .before .before .before in
@@ -110,7 +110,7 @@ same-length-5 c = search needs
 returns-2 : tie.Need-returns-2
 returns-2 c =
     let tested = c .before .before .before .before .before .before .before .before .before .before .before .before .before .before .before .before .before .before .before .before .before .before .before .before in
-    let given = tested .before .before .before .before .before .before .before .args in
+    let given = tested .before .before .before .before .before .before .before .before .args in
     let rooms = roomsOf (now (given .store)) (now (given .table)) (now (given .normal)) (now (given .overlay)) (now (given .output)) in
     let asked = c .before .before .before .before .before .before .before .before .before .before .before .before .before .before .before .before .before .before .before .before .before in
     let found-at = c .before .before .before .before .before .before .before .before .before .before .before .before .before .before .before .before .before .before .before in
@@ -128,7 +128,7 @@ returns-2 c =
 returns-3 : tie.Need-returns-3
 returns-3 c =
     let tested = c .before .before .before .before .before in
-    let given = tested .before .before .before .before .before .before .before .args in
+    let given = tested .before .before .before .before .before .before .before .before .args in
     let rooms = roomsOf (now (given .store)) (now (given .table)) (now (given .normal)) (now (given .overlay)) (now (given .output)) in
     step-waits (given .session) rooms (now (given .bytes)) (given .place) (given .last)
     (sym (subst (λ (answer : Answer). answerOutcome answer ≡ verdict (stepFaults (given .session) rooms)) (c .before .before .before .enum-told .given .1) (tested .step-check .ensures)))
@@ -137,7 +137,7 @@ returns-3 c =
 returns-4 : tie.Need-returns-4
 returns-4 c =
     let tested = c .before .before .before .before .before .before in
-    let given = tested .before .before .before .before .before .before .before .args in
+    let given = tested .before .before .before .before .before .before .before .before .args in
     let rooms = roomsOf (now (given .store)) (now (given .table)) (now (given .normal)) (now (given .overlay)) (now (given .output)) in
     step-stops (given .session) rooms (now (given .bytes)) (given .place) (given .last)
     (sym (subst (λ (answer : Answer). answerOutcome answer ≡ verdict (stepFaults (given .session) rooms)) (c .before .before .before .before .enum-told .given .1) (tested .step-check .ensures)))

@@ -40,13 +40,13 @@ enum-told-2 c = search needs
 
 keep-requires : tie.Need-keep-requires
 keep-requires c κs =
-    let start = c .before .before .before .before .before .before .before .before .before in
+    let start = c .before .before .before .before .before .before .before .before .before .before in
     let given = start .args in
     let rooms = roomsOf (now (given .store)) (now (given .table)) (now (given .normal)) (now (given .overlay)) (now (given .output)) in
-    subst (λ (which : Record). BodyFits (given .self) rooms which (now (given .body))) (c .before .enum-told2 .given .1) (start .pre .1 .1)
+    subst (λ (which : Record). BodyFits (given .self) rooms which (now (given .body))) (c .before .before .enum-told2 .given .1) (start .pre .1 .1)
 
-add-holding : tie.Need-add-holding
-add-holding c = search needs
+add-counts : tie.Need-add-counts
+add-counts c = search needs
 
 holding-requires : tie.Need-holding-requires
 holding-requires c κs = search needs
@@ -56,10 +56,10 @@ enum-told-3 c = search needs
 
 keep-requires-2 : tie.Need-keep-requires-2
 keep-requires-2 c κs =
-    let start = c .before .before .before .before .before .before .before .before .before in
+    let start = c .before .before .before .before .before .before .before .before .before .before in
     let given = start .args in
     let rooms = roomsOf (now (given .store)) (now (given .table)) (now (given .normal)) (now (given .overlay)) (now (given .output)) in
-    rw zero-add (subst (λ (which : Record). BodyFits (given .self) rooms which (now (given .body))) (c .before .enum-told3 .given .1) (start .pre .1 .1))
+    rw zero-add (subst (λ (which : Record). BodyFits (given .self) rooms which (now (given .body))) (c .before .before .enum-told3 .given .1) (start .pre .1 .1))
 
 holding-requires-2 : tie.Need-holding-requires-2
 holding-requires-2 c κs = search needs
@@ -69,10 +69,10 @@ enum-told-4 c = search needs
 
 keep-requires-3 : tie.Need-keep-requires-3
 keep-requires-3 c κs =
-    let start = c .before .before .before .before .before .before .before .before .before in
+    let start = c .before .before .before .before .before .before .before .before .before .before in
     let given = start .args in
     let rooms = roomsOf (now (given .store)) (now (given .table)) (now (given .normal)) (now (given .overlay)) (now (given .output)) in
-    rw zero-add (subst (λ (which : Record). BodyFits (given .self) rooms which (now (given .body))) (c .before .enum-told4 .given .1) (start .pre .1 .1))
+    rw zero-add (subst (λ (which : Record). BodyFits (given .self) rooms which (now (given .body))) (c .before .before .enum-told4 .given .1) (start .pre .1 .1))
 
 holding-requires-3 : tie.Need-holding-requires-3
 holding-requires-3 c κs = search needs
@@ -120,36 +120,36 @@ same-length-3 c = search needs
 
 returns-4 : tie.Need-returns-4
 returns-4 c =
-    let start = c .before .before .before .before .before .before .before .before .before .before .before .before .before in
+    let start = c .before .before .before .before .before .before .before .before .before .before .before .before .before .before .before in
     let given = start .args in
     let rooms = roomsOf (now (given .store)) (now (given .table)) (now (given .normal)) (now (given .overlay)) (now (given .output)) in
-    ap₂ (λ (left : Session × Outcome Numbered Status) (kept : List ℕ). left-in left (roomsOf (now (given .store)) kept (now (given .normal)) (now (given .overlay)) (now (given .output)))) (c .holding .ensures) (c .before .before .before .keep .ensures)
+    ap₂ (λ (left : Session × Outcome Numbered Status) (kept : List ℕ). left-in left (roomsOf (now (given .store)) kept (now (given .normal)) (now (given .overlay)) (now (given .output)))) (c .holding .ensures) (c .before .before .before .before .keep .ensures)
     ∙ acts-table (given .self) rooms (now (given .body)) (start .pre .1 .0)
-    ∙ ap (λ (which : Record). actedIn (given .self) rooms which (now (given .body))) (sym (c .before .before .before .before .before .enum-told2 .given .1))
+    ∙ ap (λ (which : Record). actedIn (given .self) rooms which (now (given .body))) (sym (c .before .before .before .before .before .before .before .enum-told2 .given .1))
 
 same-length-4 : tie.Need-same-length-4
 same-length-4 c = search needs
 
 returns-5 : tie.Need-returns-5
 returns-5 c =
-    let start = c .before .before .before .before .before .before .before .before .before .before .before .before .before in
+    let start = c .before .before .before .before .before .before .before .before .before .before .before .before .before .before in
     let given = start .args in
     let rooms = roomsOf (now (given .store)) (now (given .table)) (now (given .normal)) (now (given .overlay)) (now (given .output)) in
     ap₂ (λ (left : Session × Outcome Numbered Status) (kept : List ℕ). left-in left (roomsOf (now (given .store)) (now (given .table)) kept (now (given .overlay)) (now (given .output)))) (c .holding2 .ensures) (c .before .before .before .keep2 .ensures)
     ∙ acts-normal (given .self) rooms (now (given .body)) (start .pre .1 .0)
-    ∙ ap (λ (which : Record). actedIn (given .self) rooms which (now (given .body))) (sym (c .before .before .before .before .before .enum-told3 .given .1))
+    ∙ ap (λ (which : Record). actedIn (given .self) rooms which (now (given .body))) (sym (c .before .before .before .before .before .before .enum-told3 .given .1))
 
 same-length-5 : tie.Need-same-length-5
 same-length-5 c = search needs
 
 returns-6 : tie.Need-returns-6
 returns-6 c =
-    let start = c .before .before .before .before .before .before .before .before .before .before .before .before .before in
+    let start = c .before .before .before .before .before .before .before .before .before .before .before .before .before .before in
     let given = start .args in
     let rooms = roomsOf (now (given .store)) (now (given .table)) (now (given .normal)) (now (given .overlay)) (now (given .output)) in
     ap₂ (λ (left : Session × Outcome Numbered Status) (kept : List ℕ). left-in left (roomsOf (now (given .store)) (now (given .table)) (now (given .normal)) kept (now (given .output)))) (c .holding3 .ensures) (c .before .before .before .keep3 .ensures)
     ∙ acts-overlay (given .self) rooms (now (given .body)) (start .pre .1 .0)
-    ∙ ap (λ (which : Record). actedIn (given .self) rooms which (now (given .body))) (sym (c .before .before .before .before .before .enum-told4 .given .1))
+    ∙ ap (λ (which : Record). actedIn (given .self) rooms which (now (given .body))) (sym (c .before .before .before .before .before .before .enum-told4 .given .1))
 
 same-length-6 : tie.Need-same-length-6
 same-length-6 c = search needs
@@ -186,7 +186,7 @@ act-spec =
     dots-requires
     enum-told-2
     keep-requires
-    add-holding
+    add-counts
     holding-requires
     enum-told-3
     keep-requires-2

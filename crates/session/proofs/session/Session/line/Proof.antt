@@ -56,7 +56,7 @@ entry-of-requires : tie.Need-entry-of-requires
 entry-of-requires c κs = search needs
 
 listed-requires : tie.Need-listed-requires
-listed-requires c κs = rw (c .before .before .with-state .ensures) (c .before .before .before .before .before .before .before .before .before .before .before .before .before .before .before .before .before .pre .0)
+listed-requires c κs = rw (c .before .before .with-state .ensures) (c .before .before .before .before .before .before .before .before .before .before .before .before .before .before .before .before .before .before .pre .0)
 
 same-length : tie.Need-same-length
 same-length c = search needs
@@ -64,12 +64,12 @@ same-length c = search needs
 returns : tie.Need-returns
 returns c =
     let call = c .before .before .before .before .before .before .before in
-    let given = call .before .before .before .before .before .before .before .before .before .before .before .args in
+    let given = call .before .before .before .before .before .before .before .before .before .before .before .before .args in
     let held = given .self in
-    let after = drawn (requestOf (held .state) (given .y)) (lentOf (now (given .store)) (take (held .table) (now (given .table))) (take (held .normal) (now (given .normal))) (take (held .overlay) (now (given .overlay)))) (now (given .output)) in
+    let after = drawn (requestOf (held .state) (given .y)) (lentOf (now (given .store)) (take (held .counts .table) (now (given .table))) (take (held .counts .normal) (now (given .normal))) (take (held .counts .overlay) (now (given .overlay)))) (now (given .output)) in
     asked-by held (saysLine (given .y) (controlsOf (held .state .control) .width)) (call .draw .result .state) (call .draw .last .1 .1 .1 .1 .1 .0) (answerOutcome (call .draw .result .answer)) after
     (c .listed .ensures) (c .before .before .before .with-state .ensures)
-    (rw (sub-zero (held .table), sub-zero (held .normal), sub-zero (held .overlay)) at (call .draw .ensures))
+    (rw (sub-zero (held .counts .table), sub-zero (held .counts .normal), sub-zero (held .counts .overlay)) at (call .draw .ensures))
     (c .before .entry-of .ensures ∙ ap (λ (width : ℕ). entryOf (saysLine (given .y) width) (answerOutcome (call .draw .result .answer))) (c .before .before .width .ensures))
 
 pub line-spec : {M : Type 1} → statement M
