@@ -56,8 +56,8 @@ fn of_library(file: &[u8], listing: &mut Vec<u8>) {
     let (mut store, mut output) = (vec![0; STORE_WORDS], vec![0; OUTPUT_WORDS]);
     let (mut table, mut normal, mut overlay) = (vec![0; TABLE_BYTES], vec![0; NORMAL_BYTES], vec![0; OVERLAY_BYTES]);
     let mut text = vec![0; TEXT_BYTES];
-    let (mut held, mut place, mut came) = (library::fresh_session(), 0, LISTED);
-    while came == LISTED {
+    let (mut held, mut place, mut status) = (library::fresh_session(), 0, LISTED);
+    while status == LISTED {
         let rooms = Rooms {
             store: &mut store,
             table: &mut table,
@@ -68,7 +68,7 @@ fn of_library(file: &[u8], listing: &mut Vec<u8>) {
         };
         let stepped = library::step(held, &mut bytes, place, 1, rooms);
         listing.extend_from_slice(&text[..stepped.text]);
-        (held, place, came) = (stepped.held, stepped.next, stepped.came);
+        (held, place, status) = (stepped.held, stepped.next, stepped.status);
     }
 }
 

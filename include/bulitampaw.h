@@ -152,20 +152,20 @@ typedef struct {
 
 /* What a step comes to. */
 enum {
-    BULITAMPAW_CAME_REFUSED = 0, /* nothing: the call was refused, and all is as it was */
-    BULITAMPAW_CAME_LISTED = 1,  /* a record was run, and its entry of the listing is the text; the refusal is the record's */
-    BULITAMPAW_CAME_END = 2,     /* the end record: the run is over, and what stands behind it is not for it */
-    BULITAMPAW_CAME_MORE = 3,    /* the bytes end before or within a record, and the file goes on: nothing was done */
-    BULITAMPAW_CAME_STOPPED = 4  /* a fault of the file, 12 to 14, which the text lists: the run is over */
+    BULITAMPAW_STATUS_REFUSED = 0, /* nothing: the call was refused, and all is as it was */
+    BULITAMPAW_STATUS_LISTED = 1,  /* a record was run, and its entry of the listing is the text; the refusal is the record's */
+    BULITAMPAW_STATUS_END = 2,     /* the end record: the run is over, and what stands behind it is not for it */
+    BULITAMPAW_STATUS_MORE = 3,    /* the bytes end before or within a record, and the file goes on: nothing was done */
+    BULITAMPAW_STATUS_STOPPED = 4  /* a fault of the file, 12 to 14, which the text lists: the run is over */
 };
 
 /* What a step answers: where the next record starts, how many bytes of text it put, the refusal that it lists or is answered by, and what it comes
-   to. Number 0 says that there is no refusal, and not that a record was run; came says that. */
+   to. Number 0 says that there is no refusal, and not that a record was run; status says that. */
 typedef struct {
     bulitampaw_session session;
     size_t next, text;
     bulitampaw_refusal refusal;
-    uint32_t came;
+    uint32_t status;
 } bulitampaw_stepped;
 
 /* A fresh state: all zero, nothing waiting. The store of a fresh chip is all zero too; it is the caller's, and the same one is lent to every call. */
@@ -202,12 +202,12 @@ bulitampaw_session bulitampaw_fresh_session(void);
 /* Runs the record at a place of a session file's bytes, on the lent store, table, rows and output, and puts its text, without a closing
    zero byte, at the front of the text. The next step goes on at the place that comes back. A last other than 0 says that the file ends with these bytes;
    behind them there are none, and a place past their end is one where nothing stands.
-   A record that is not whole is waited for, unless the file ends: the step then comes to BULITAMPAW_CAME_MORE and did nothing. Lend the bytes from the same
+   A record that is not whole is waited for, unless the file ends: the step then comes to BULITAMPAW_STATUS_MORE and did nothing. Lend the bytes from the same
    place on again, with more behind them, or with last set. Only 12 is told of such a record at once; 14 and 13 may depend on what follows.
    Store, table, rows and output have exactly the lengths above, the text at least its own. The call is refused by 11 where the session says that more of
    table or rows is there than their rooms hold, then by 5 at the lowest place. That is no line of the listing. What a record is refused for, 11 for a
    bad state of the chip too, is listed: it stands in the text and in the answer, and the run goes on.
-   A run is over with BULITAMPAW_CAME_END, BULITAMPAW_CAME_STOPPED and a refused call. */
+   A run is over with BULITAMPAW_STATUS_END, BULITAMPAW_STATUS_STOPPED and a refused call. */
 bulitampaw_stepped bulitampaw_step(bulitampaw_session session, const uint8_t *bytes, size_t length, size_t place, uint32_t last,
     uint32_t *store, size_t store_length, uint8_t *table, size_t table_length, uint8_t *normal, size_t normal_length,
     uint8_t *overlay, size_t overlay_length, uint32_t *output, size_t output_length, uint8_t *text, size_t text_length);
@@ -240,8 +240,8 @@ typedef struct {
 typedef struct {
     size_t text;
     bulitampaw_refusal refusal;
-    uint32_t came;
-} bulitampaw_came;
+    uint32_t status;
+} bulitampaw_step_result;
 
 /* A write. The store has BULITAMPAW_STORE_WORDS words, here and below. */
 static inline bulitampaw_refusal bulitampaw_state_write(bulitampaw_state *state, uint32_t *store, uint32_t address, uint32_t value)
@@ -290,19 +290,19 @@ static inline bulitampaw_refusal bulitampaw_state_line(const bulitampaw_state *s
 }
 
 /* A step at a place of some bytes, which becomes that of the next record. The text stands in the rooms. */
-static inline bulitampaw_came bulitampaw_session_step(bulitampaw_session *session, bulitampaw_rooms *rooms,
+static inline bulitampaw_step_result bulitampaw_session_step(bulitampaw_session *session, bulitampaw_rooms *rooms,
     const uint8_t *bytes, size_t length, size_t *place, uint32_t last)
 {
     const bulitampaw_stepped stepped = bulitampaw_step(*session, bytes, length, *place, last,
         rooms->store, BULITAMPAW_STORE_WORDS, rooms->table, BULITAMPAW_TABLE_BYTES, rooms->normal, BULITAMPAW_NORMAL_BYTES,
         rooms->overlay, BULITAMPAW_OVERLAY_BYTES, rooms->output, BULITAMPAW_OUTPUT_WORDS, rooms->text, BULITAMPAW_TEXT_BYTES);
-    bulitampaw_came came;
+    bulitampaw_step_result result;
     *session = stepped.session;
     *place = stepped.next;
-    came.text = stepped.text;
-    came.refusal = stepped.refusal;
-    came.came = stepped.came;
-    return came;
+    result.text = stepped.text;
+    result.refusal = stepped.refusal;
+    result.status = stepped.status;
+    return result;
 }
 
 #ifdef __cplusplus

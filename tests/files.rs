@@ -74,10 +74,10 @@ pub fn of_library(file: &[u8]) -> Vec<u8> {
             text: &mut text,
         };
         let stepped = library::step(held, &mut file, place, 1, rooms);
-        if matches!(stepped.came, LISTED | STOPPED) {
+        if matches!(stepped.status, LISTED | STOPPED) {
             listing.extend_from_slice(&text[..stepped.text.min(TEXT_BYTES)]);
         }
-        if stepped.came != LISTED {
+        if stepped.status != LISTED {
             break;
         }
         (held, place) = (stepped.held, stepped.next);

@@ -54,12 +54,12 @@ static void lengths(void) {
     same("bytes of a record", BULITAMPAW_RECORD_BYTES, 1 + 2 + 65535);
 }
 
-static void came(void) {
-    same("refused", BULITAMPAW_CAME_REFUSED, 0);
-    same("listed", BULITAMPAW_CAME_LISTED, 1);
-    same("end", BULITAMPAW_CAME_END, 2);
-    same("more", BULITAMPAW_CAME_MORE, 3);
-    same("stopped", BULITAMPAW_CAME_STOPPED, 4);
+static void statuses(void) {
+    same("refused", BULITAMPAW_STATUS_REFUSED, 0);
+    same("listed", BULITAMPAW_STATUS_LISTED, 1);
+    same("end", BULITAMPAW_STATUS_END, 2);
+    same("more", BULITAMPAW_STATUS_MORE, 3);
+    same("stopped", BULITAMPAW_STATUS_STOPPED, 4);
 }
 
 /* 9 control words, the position, how many wait, and 64 pairs; counts of bytes have 8 bytes each. */
@@ -78,7 +78,7 @@ static void layouts(void) {
     same("a step's next place", offsetof(bulitampaw_stepped, next), 592);
     same("its text", offsetof(bulitampaw_stepped, text), 600);
     same("its refusal", offsetof(bulitampaw_stepped, refusal), 608);
-    same("what it comes to", offsetof(bulitampaw_stepped, came), 616);
+    same("what it comes to", offsetof(bulitampaw_stepped, status), 616);
 }
 
 int main(void) {
@@ -86,7 +86,7 @@ int main(void) {
     places();
     registers();
     lengths();
-    came();
+    statuses();
     layouts();
     return finished("header");
 }

@@ -14,15 +14,15 @@ static const uint8_t whole_case[] = {
 
 /* What each of its steps comes to: its record's end, its text, and number and place. */
 static const struct {
-    uint32_t came;
+    uint32_t status;
     size_t next;
     const char *text;
     uint32_t number, place;
 } wanted[] = {
-    {BULITAMPAW_CAME_LISTED, 11, "ok\n", 0, 0}, {BULITAMPAW_CAME_LISTED, 22, "ok\n", 0, 0},
-    {BULITAMPAW_CAME_LISTED, 33, "ok\n", 0, 0}, {BULITAMPAW_CAME_LISTED, 40, "at 0 0\n", 0, 0},
-    {BULITAMPAW_CAME_LISTED, 45, "ok\n", 0, 0}, {BULITAMPAW_CAME_LISTED, 50, "line 0\n102030\n", 0, 0},
-    {BULITAMPAW_CAME_LISTED, 55, "refused 6 1\n", 6, 1}, {BULITAMPAW_CAME_END, 58, "", 0, 0}};
+    {BULITAMPAW_STATUS_LISTED, 11, "ok\n", 0, 0}, {BULITAMPAW_STATUS_LISTED, 22, "ok\n", 0, 0},
+    {BULITAMPAW_STATUS_LISTED, 33, "ok\n", 0, 0}, {BULITAMPAW_STATUS_LISTED, 40, "at 0 0\n", 0, 0},
+    {BULITAMPAW_STATUS_LISTED, 45, "ok\n", 0, 0}, {BULITAMPAW_STATUS_LISTED, 50, "line 0\n102030\n", 0, 0},
+    {BULITAMPAW_STATUS_LISTED, 55, "refused 6 1\n", 6, 1}, {BULITAMPAW_STATUS_END, 58, "", 0, 0}};
 
 enum { STEPS = sizeof wanted / sizeof *wanted };
 
@@ -56,8 +56,8 @@ static void text_is(const char *what, size_t length, const char *text) {
 }
 
 /* A step that does nothing: it comes to this, and session, place and rooms stay. */
-static void nothing(const char *what, bulitampaw_stepped stepped, uint32_t came, uint32_t number, uint32_t place, size_t next) {
-    same(what, stepped.came, came);
+static void nothing(const char *what, bulitampaw_stepped stepped, uint32_t status, uint32_t number, uint32_t place, size_t next) {
+    same(what, stepped.status, status);
     same(what, stepped.refusal.number, number);
     same(what, stepped.refusal.place, place);
     same(what, stepped.next, next);
@@ -73,7 +73,7 @@ static void stops(const char *what, bulitampaw_stepped stepped, uint32_t number,
     text_is(what, stepped.text, text);
     memset(rooms.text, OLD, stepped.text);
     stepped.text = 0;
-    nothing(what, stepped, BULITAMPAW_CAME_STOPPED, number, session.records, stepped.next);
+    nothing(what, stepped, BULITAMPAW_STATUS_STOPPED, number, session.records, stepped.next);
 }
 
 /* The whole case in one piece. */
@@ -82,7 +82,7 @@ static void whole(void) {
     begin();
     for (size_t number = 0; number < STEPS; number++) {
         const bulitampaw_stepped stepped = step(whole_case, sizeof whole_case, place, 1);
-        same("the whole case", stepped.came, wanted[number].came);
+        same("the whole case", stepped.status, wanted[number].status);
         same("its places", stepped.next, wanted[number].next);
         same("its numbers", stepped.refusal.number, wanted[number].number);
         same("the places of its refusals", stepped.refusal.place, wanted[number].place);
@@ -96,7 +96,7 @@ static void whole(void) {
     same("the output", rooms.output[0], 0x102030);
     same("the word past it", rooms.output[1], 0xEEEEEEEEu);
     same("the byte past the row", rooms.normal[2], OLD);
-    nothing("after its end", step(whole_case, sizeof whole_case, place, 0), BULITAMPAW_CAME_MORE, 0, 0, place);
+    nothing("after its end", step(whole_case, sizeof whole_case, place, 0), BULITAMPAW_STATUS_MORE, 0, 0, place);
 }
 
 /* The whole case by the wrapper, byte by byte. */
@@ -104,18 +104,18 @@ static void byte_by_byte(void) {
     size_t place = 0, number = 0;
     begin();
     for (size_t length = 0; length <= sizeof whole_case && number < STEPS; length++) {
-        const bulitampaw_came came = bulitampaw_session_step(&session, &rooms, whole_case, length, &place, 0);
+        const bulitampaw_step_result result = bulitampaw_session_step(&session, &rooms, whole_case, length, &place, 0);
         if (length < wanted[number].next) {
-            same("a beginning", came.came, BULITAMPAW_CAME_MORE);
-            same("its text", came.text, 0);
+            same("a beginning", result.status, BULITAMPAW_STATUS_MORE);
+            same("its text", result.text, 0);
             same("its place", place, number == 0 ? 0 : wanted[number - 1].next);
         } else {
-            same("a record by pointer", came.came, wanted[number].came);
-            same("its number", came.refusal.number, wanted[number].number);
-            same("its refusal's place", came.refusal.place, wanted[number].place);
+            same("a record by pointer", result.status, wanted[number].status);
+            same("its number", result.refusal.number, wanted[number].number);
+            same("its refusal's place", result.refusal.place, wanted[number].place);
             same("the next place", place, wanted[number].next);
-            text_is("a text by pointer", came.text, wanted[number].text);
-            memset(rooms.text, OLD, came.text);
+            text_is("a text by pointer", result.text, wanted[number].text);
+            memset(rooms.text, OLD, result.text);
             number++;
         }
     }
@@ -129,31 +129,31 @@ static void wrong_lengths(void) {
     for (size_t room = 0; room < 6; room++) {
         const size_t right = lengths[room];
         lengths[room] = 0;
-        nothing("no room", step(whole_case, sizeof whole_case, 0, 1), BULITAMPAW_CAME_REFUSED, 5, (uint32_t)room + 1, 0);
+        nothing("no room", step(whole_case, sizeof whole_case, 0, 1), BULITAMPAW_STATUS_REFUSED, 5, (uint32_t)room + 1, 0);
         lengths[room] = right - 1;
-        nothing("a short room", step(whole_case, sizeof whole_case, 0, 1), BULITAMPAW_CAME_REFUSED, 5, (uint32_t)room + 1, 0);
+        nothing("a short room", step(whole_case, sizeof whole_case, 0, 1), BULITAMPAW_STATUS_REFUSED, 5, (uint32_t)room + 1, 0);
         lengths[room] = right;
     }
     memset(lengths, 0, sizeof lengths);
-    nothing("no room at all", step(NULL, 0, 9, 1), BULITAMPAW_CAME_REFUSED, 5, BULITAMPAW_STORE, 9);
+    nothing("no room at all", step(NULL, 0, 9, 1), BULITAMPAW_STATUS_REFUSED, 5, BULITAMPAW_STORE, 9);
     session.table = BULITAMPAW_TABLE_BYTES + 1;
-    nothing("a table that is too long", step(NULL, 0, 9, 1), BULITAMPAW_CAME_REFUSED, 11, 0, 9);
+    nothing("a table that is too long", step(NULL, 0, 9, 1), BULITAMPAW_STATUS_REFUSED, 11, 0, 9);
     session.table = 0, session.normal = BULITAMPAW_NORMAL_BYTES + 1;
-    nothing("a normal row that is too long", step(NULL, 0, 9, 0), BULITAMPAW_CAME_REFUSED, 11, 0, 9);
+    nothing("a normal row that is too long", step(NULL, 0, 9, 0), BULITAMPAW_STATUS_REFUSED, 11, 0, 9);
     session.normal = 0, session.overlay = BULITAMPAW_OVERLAY_BYTES + 1;
-    nothing("an overlay row that is too long", step(NULL, 0, 9, 0), BULITAMPAW_CAME_REFUSED, 11, 0, 9);
+    nothing("an overlay row that is too long", step(NULL, 0, 9, 0), BULITAMPAW_STATUS_REFUSED, 11, 0, 9);
 }
 
 /* The faults of a file, and records whose bytes aren't all there. */
 static void faults(void) {
     static const uint8_t unknown[] = {7}, table[] = {3, 0, 2, 0xAB, 0xCD}, dots[] = {2, 0, 4, 1, 0, 0, 1}, line[] = {6, 0, 3};
     begin();
-    nothing("no bytes yet", step(NULL, 0, 0, 0), BULITAMPAW_CAME_MORE, 0, 0, 0);
+    nothing("no bytes yet", step(NULL, 0, 0, 0), BULITAMPAW_STATUS_MORE, 0, 0, 0);
     stops("no bytes", step(NULL, 0, 0, 1), BULITAMPAW_FILE_ENDS, "refused 13 0\n");
     stops("a place past the end", step(whole_case, sizeof whole_case, SIZE_MAX, 1), BULITAMPAW_FILE_ENDS, "refused 13 0\n");
     stops("an unknown tag", step(unknown, sizeof unknown, 0, 0), BULITAMPAW_WRONG_RECORD, "refused 12 0\n");
     stops("a wrong length", step(line, sizeof line, 0, 0), BULITAMPAW_WRONG_RECORD, "refused 12 0\n");
-    nothing("half a length", step(line, 2, 0, 0), BULITAMPAW_CAME_MORE, 0, 0, 0);
+    nothing("half a length", step(line, 2, 0, 0), BULITAMPAW_STATUS_MORE, 0, 0, 0);
     stops("too many dots", step(dots, sizeof dots, 0, 0), BULITAMPAW_WRONG_RECORD, "refused 12 0\n");
     session.records = 1000000;
     stops("record 1,000,000", step(table, sizeof table, 0, 0), BULITAMPAW_TOO_MUCH, "refused 14 1000000\n");

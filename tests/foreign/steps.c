@@ -136,16 +136,16 @@ static int around_rooms_stays(void) {
 
 /* What holds of each step. */
 static void judge(const bulitampaw_session *before, const bulitampaw_stepped *after, size_t place, size_t lent, int last) {
-    const int acted = after->came == BULITAMPAW_CAME_LISTED || after->came == BULITAMPAW_CAME_END;
-    holds(after->came <= BULITAMPAW_CAME_STOPPED, "a step comes to nothing that there is");
+    const int acted = after->status == BULITAMPAW_STATUS_LISTED || after->status == BULITAMPAW_STATUS_END;
+    holds(after->status <= BULITAMPAW_STATUS_STOPPED, "a step comes to nothing that there is");
     holds(after->refusal.number <= BULITAMPAW_TOO_MUCH, "a number that there isn't");
     holds(after->text <= lengths[5], "more text than there is room for");
     holds(acted ? after->next >= place + 3 && after->next <= lent : after->next == place, "a wrong next place");
-    holds(after->came == BULITAMPAW_CAME_LISTED || same_session(before, &after->session), "a session that changed");
-    holds(after->came == BULITAMPAW_CAME_LISTED || rooms_stay(after->text), "rooms that changed");
+    holds(after->status == BULITAMPAW_STATUS_LISTED || same_session(before, &after->session), "a session that changed");
+    holds(after->status == BULITAMPAW_STATUS_LISTED || rooms_stay(after->text), "rooms that changed");
     holds(around_rooms_stays() && lent_stays(TEXT, after->text), "something changed past the text, or around the rooms");
-    holds(after->came != BULITAMPAW_CAME_MORE || !last, "more bytes wanted of a file that ends");
-    holds((after->came == BULITAMPAW_CAME_REFUSED) == (after->refusal.number == 5 || after->refusal.number == 11) || acted, "a wrong number");
+    holds(after->status != BULITAMPAW_STATUS_MORE || !last, "more bytes wanted of a file that ends");
+    holds((after->status == BULITAMPAW_STATUS_REFUSED) == (after->refusal.number == 5 || after->refusal.number == 11) || acted, "a wrong number");
     holds(after->text == 0 || ((uint8_t *)lent_at(TEXT))[after->text - 1] == '\n', "a text without its end");
 }
 
@@ -177,10 +177,10 @@ void round_of_steps(void) {
         lent_read_only(BYTES, 0);
         holds(lent_stays(BYTES, 0), "a step changed the file");
         judge(&session, &stepped, strange, lent_bytes(BYTES), last);
-        if (stepped.came == BULITAMPAW_CAME_REFUSED || stepped.came == BULITAMPAW_CAME_STOPPED)
+        if (stepped.status == BULITAMPAW_STATUS_REFUSED || stepped.status == BULITAMPAW_STATUS_STOPPED)
             break;
         session = stepped.session;
-        if (stepped.came != BULITAMPAW_CAME_MORE)
+        if (stepped.status != BULITAMPAW_STATUS_MORE)
             place = from + stepped.next;
         if (upto < place)
             upto = place;

@@ -78,12 +78,12 @@ pub struct Stepped {
     pub text: usize,
     pub number: u32,
     pub place: u32,
-    pub came: u32,
+    pub status: u32,
 }
 
 /// Runs the record at a place of some bytes, with which the file ends or doesn't.
 pub fn step(held: Held, bytes: &[u8], place: usize, last: bool, rooms: Rooms) -> Stepped {
-    let nothing = |came, (number, at): Refusal| Stepped { held, next: place, text: 0, number, place: at, came };
+    let nothing = |status, (number, at): Refusal| Stepped { held, next: place, text: 0, number, place: at, status };
     if !held.fits() {
         return nothing(REFUSED, (11, 0));
     }
@@ -134,7 +134,7 @@ fn run(mut held: Held, record: Record, rooms: Rooms) -> Option<Stepped> {
     held.records += 1;
     let (number, place) = listed.as_ref().err().copied().unwrap_or((0, 0));
     let text = put(listed.unwrap_or_else(Listed::Refused), text);
-    Some(Stepped { held, next: 0, text, number, place, came: LISTED })
+    Some(Stepped { held, next: 0, text, number, place, status: LISTED })
 }
 
 /// Puts bytes behind those that a room holds.

@@ -121,9 +121,9 @@ impl Walk {
             return Ok(false);
         }
         self.listed.extend_from_slice(pair.text(stepped.text));
-        if matches!(stepped.came, LISTED | END) {
+        if matches!(stepped.status, LISTED | END) {
             (self.held, self.at) = (stepped.held, from + stepped.next);
         }
-        Ok(!matches!(stepped.came, LISTED | MORE))
+        Ok(!matches!(stepped.status, LISTED | MORE))
     }
 }

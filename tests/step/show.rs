@@ -64,10 +64,10 @@ impl Display for Given {
 
 /// What a step answers, in words.
 fn answered(stepped: &Stepped, text: &[u8]) -> String {
-    let Stepped { held, next, text: length, number, place, came } = stepped;
+    let Stepped { held, next, text: length, number, place, status } = stepped;
     let counts = format!("{} {} {} {}", held.records, held.table, held.normal, held.overlay);
     let text = lines(&text[..text.len().min(SHOWN)]).replace('\n', " / ");
-    format!("came {came}, next {next}, number {number}, place {place}, counts {counts}, text of {length} bytes: {text}")
+    format!("status {status}, next {next}, number {number}, place {place}, counts {counts}, text of {length} bytes: {text}")
 }
 
 impl Display for Difference {

@@ -5,35 +5,35 @@ use std::fmt;
 use crate::model::step::{Stepped, LISTED};
 
 /// What steps come to, and the records that are listed.
-const CAME: [&str; 5] = ["refused", "listed", "the end", "more", "stopped"];
+const STATUSES: [&str; 5] = ["refused", "listed", "the end", "more", "stopped"];
 const RECORDS: [&str; 7] = ["", "writes", "runs of dots", "parts of a table", "normal rows", "overlay rows", "lines"];
 
 #[derive(Default)]
 pub struct Tally {
-    came: [u64; 5],
+    statuses: [u64; 5],
     records: [u64; 7],
     refused: [u64; 15],
 }
 
 impl Tally {
     pub fn count(&mut self, stepped: &Stepped, tag: Option<&u8>) {
-        self.came[stepped.came as usize] += 1;
+        self.statuses[stepped.status as usize] += 1;
         self.refused[stepped.number as usize] += 1;
-        if let (LISTED, Some(tag)) = (stepped.came, tag) {
+        if let (LISTED, Some(tag)) = (stepped.status, tag) {
             self.records[usize::from(*tag)] += 1;
         }
     }
 
     pub fn steps(&self) -> u64 {
-        self.came.iter().sum()
+        self.statuses.iter().sum()
     }
 }
 
 impl fmt::Display for Tally {
     fn fmt(&self, f: &mut fmt::Formatter) -> fmt::Result {
         write!(f, "{} steps:", self.steps())?;
-        for (times, came) in self.came.iter().zip(CAME) {
-            write!(f, " {times} {came},")?;
+        for (times, status) in self.statuses.iter().zip(STATUSES) {
+            write!(f, " {times} {status},")?;
         }
         write!(f, " listed")?;
         for (times, records) in self.records.iter().zip(RECORDS).skip(1) {

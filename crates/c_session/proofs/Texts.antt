@@ -51,7 +51,7 @@ module _ (output lent : List ℕ) (long : textRoom ≤ length lent) where
       rw (le-leb (0 + roomFor entry output) (length lent) (omega (arith, shown-short entry output, short, long)), zero-add (length (text entry output))) refl
 
   -- and so has whatever a call comes to
-  text-put : (outcome : Outcome Numbered Status) → ((came : Status) → outcome ≡ ok came → length output ≤ longestLine)
+  text-put : (outcome : Outcome Numbered Status) → ((status : Status) → outcome ≡ ok status → length output ≤ longestLine)
       → putText outcome output lent ≡ (length (textBy outcome output), laid lent (textBy outcome output))
   text-put (ok (listed entry)) short = entry-put entry (short (listed entry) refl)
   text-put (ok ended) short = refl
@@ -63,7 +63,7 @@ module _ (session : Session) (rooms : Rooms) (lent bytes : List ℕ) (place : �
   -- with a text too short a step is refused
   pub step-short : length lent < textRoom
       → _≡_ {A = Stepped × (Rooms × List ℕ)}
-      (stepAnswer (session, place) (record { came = 0; refusal = orText (verdict (stepFaults session rooms)) }) 0, (rooms, lent))
+      (stepAnswer (session, place) (record { status = 0; refusal = orText (verdict (stepFaults session rooms)) }) 0, (rooms, lent))
       (stepInNumbers session rooms lent bytes place last)
   unfolding stepInNumbers
   step-short short =
@@ -79,12 +79,12 @@ module _ (session : Session) (rooms : Rooms) (lent bytes : List ℕ) (place : �
       (sym (last-clear ((session, place), rooms) (afterStep session rooms bytes place last) (stepFaults session rooms) (textFault (length lent)) (le-ltb (length lent) textRoom long)))
 
   -- a step that is not refused is lent an output of its length
-  output-room : {came : Status} → sessionStep session rooms bytes place last .1 ≡ ok came → length (rooms .output) ≡ longestLine
+  output-room : {status : Status} → sessionStep session rooms bytes place last .1 ≡ ok status → length (rooms .output) ≡ longestLine
   unfolding sessionStep roomFaults
-  output-room {came} e =
+  output-room {status} e =
       eqb-true (length (rooms .output)) longestLine
       (not-false (eqb (length (rooms .output)) longestLine)
-      (accepted-clear ((session, place), rooms) (afterStep session rooms bytes place last) (stepFaults session rooms) came e .1 .1 .1 .1 .1 .0))
+      (accepted-clear ((session, place), rooms) (afterStep session rooms bytes place last) (stepFaults session rooms) status e .1 .1 .1 .1 .1 .0))
 
   -- a step and its text, from what the session's step and the putting of its text left
   pub step-made : {left : Left × Outcome Numbered Status} {put : ℕ × List ℕ} → left ≡ sessionStep session rooms bytes place last
@@ -96,6 +96,6 @@ module _ (session : Session) (rooms : Rooms) (lent bytes : List ℕ) (place : �
       ap (λ (one : ℕ × List ℕ). (stepAnswer (left .0 .0) (statusInNumbers (left .1)) (one .0), (left .0 .1, one .1)))
       (text-is
       ∙ text-put (left .0 .1 .output) lent long (left .1)
-      (λ came e. omega (arith, same, output-room (ap (λ (all : Left × Outcome Numbered Status). all .1) (sym stepped) ∙ e))))
+      (λ status e. omega (arith, same, output-room (ap (λ (all : Left × Outcome Numbered Status). all .1) (sym stepped) ∙ e))))
       ∙ ap (λ (all : Left × Outcome Numbered Status). stepLeft all lent) stepped
       ∙ step-of-session long

@@ -49,26 +49,26 @@ entryRefusal (entry.saysRefused refusal) = refusedBy refusal
 
 -- 0 where the call is refused, 1 for an entry, 2 for the end, 3 for a wait, 4 for a fault of the file
 abbrev pub statusInNumbers : Outcome Numbered Status → StatusNumbers
-statusInNumbers (refused refusal) = record { came = 0; refusal = refusedBy refusal }
-statusInNumbers (ok (listed entry)) = record { came = 1; refusal = entryRefusal entry }
-statusInNumbers (ok ended) = record { came = 2; refusal = nothing }
-statusInNumbers (ok needsMore) = record { came = 3; refusal = nothing }
-statusInNumbers (ok (stopped refusal)) = record { came = 4; refusal = refusedBy refusal }
+statusInNumbers (refused refusal) = record { status = 0; refusal = refusedBy refusal }
+statusInNumbers (ok (listed entry)) = record { status = 1; refusal = entryRefusal entry }
+statusInNumbers (ok ended) = record { status = 2; refusal = nothing }
+statusInNumbers (ok needsMore) = record { status = 3; refusal = nothing }
+statusInNumbers (ok (stopped refusal)) = record { status = 4; refusal = refusedBy refusal }
 
 -- the text: that of what it comes to, none where the call is refused
 abbrev pub textBy : Outcome Numbered Status → List ℕ → List ℕ
-textBy (ok came) output = textOf output came
+textBy (ok status) output = textOf output status
 textBy (refused refusal) output = []
 
 -- a step
 abbrev pub stepAnswer : Session × ℕ → StatusNumbers → ℕ → Stepped
-stepAnswer left came text =
+stepAnswer left numbers text =
     record {
       session = left .0;
       next = left .1;
       text = text;
-      refusal = came .refusal;
-      came = came .came;
+      refusal = numbers .refusal;
+      status = numbers .status;
     }
 
 -- what it answers and leaves: by what the call left and came to, with the text at the front of the lent bytes

@@ -24,19 +24,26 @@ use session_listing::render::render;
 use session_rooms::Counts;
 use session_rooms::step_check;
 
-// What a step answers: where the next record starts, how many bytes of text were put, the refusal, and what it comes to.
+// What a step answers.
 #[repr(C)]
 pub struct Stepped {
+    // The session after it.
     pub session: Session,
+    // Where the next record starts.
     pub next: usize,
+    // How many bytes of text were put.
     pub text: usize,
+    // The refusal that it lists or is answered by.
     pub refusal: Refused,
-    pub came: u32,
+    // What it comes to.
+    pub status: u32,
 }
 
-// What a step comes to, and the refusal that it lists or is answered by.
+// A step's status and refusal, for C.
 pub struct StatusNumbers {
-    pub came: u32,
+    // What it comes to.
+    pub status: u32,
+    // The refusal that it lists or is answered by.
     pub refusal: Refused,
 }
 
@@ -60,29 +67,29 @@ fn entry_refusal(entry: ListingEntry) -> Refused
     }
 }
 
-// What an answer comes to.
-fn came_to(answer: StepAnswer) -> StatusNumbers
+// What an answer comes to, and the refusal in it.
+fn status_in_numbers(answer: StepAnswer) -> StatusNumbers
     ensures { λ r. ⌜ r ≡ statusInNumbers (stepOutcome answer) ⌝ }
 {
     match answer {
         StepAnswer::Refused(refusal) => StatusNumbers {
-            came: 0,
+            status: 0,
             refusal: refused_by(refusal),
         },
         StepAnswer::Listed(entry) => StatusNumbers {
-            came: 1,
+            status: 1,
             refusal: entry_refusal(entry),
         },
         StepAnswer::End => StatusNumbers {
-            came: 2,
+            status: 2,
             refusal: nothing(),
         },
         StepAnswer::More => StatusNumbers {
-            came: 3,
+            status: 3,
             refusal: nothing(),
         },
         StepAnswer::Stopped(refusal) => StatusNumbers {
-            came: 4,
+            status: 4,
             refusal: refused_by(refusal),
         },
     }
@@ -163,7 +170,7 @@ pub extern "C" fn bulitampaw_step(
             next: place,
             text: 0,
             refusal,
-            came: 0,
+            status: 0,
         };
     }
     let stepped = step(
@@ -179,14 +186,14 @@ pub extern "C" fn bulitampaw_step(
     );
     let answer = stepped.answer;
     let put = put_text(answer, output, text);
-    let came = came_to(answer);
-    let refusal = came.refusal;
+    let status = status_in_numbers(answer);
+    let refusal = status.refusal;
     let next = stepped.session;
     Stepped {
         session: next,
         next: stepped.place,
         text: put,
         refusal,
-        came: came.came,
+        status: status.status,
     }
 }

@@ -29,7 +29,7 @@ Result = (Session × Rooms) × Outcome Numbered Status
 module _ (session : Session) (rooms : Rooms) (body : List ℕ) (within : Within session rooms) where
   -- left so, and come to this
   abbrev come-to : Status → Session × Rooms → Result
-  come-to came left = (left, ok came)
+  come-to status left = (left, ok status)
 
   -- the end record
   pub acts-end : come-to ended (session, rooms) ≡ actedIn session rooms End body

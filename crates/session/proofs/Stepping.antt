@@ -141,10 +141,10 @@ module _ (session : Session) (rooms : Rooms) (bytes : List ℕ) (place : ℕ) (l
       ap (λ (table : ℕ). recordAt (judgedAt (session .records) table last) (drop place bytes)) (table-count session rooms inside)
 
   -- what comes of what was found
-  came : (answer : RecordAt) → Within session rooms → recordAt (judgedBy session rooms last) (drop place bytes) ≡ answer
+  stepped-by : (answer : RecordAt) → Within session rooms → recordAt (judgedBy session rooms last) (drop place bytes) ≡ answer
       → stepped last (heldIn session rooms) (drop place bytes) ≡ statusBy (heldIn session rooms) (drop place bytes) answer
   unfolding stepped
-  came answer inside is = ap (statusBy (heldIn session rooms) (drop place bytes)) (same-found inside ∙ is)
+  stepped-by answer inside is = ap (statusBy (heldIn session rooms) (drop place bytes)) (same-found inside ∙ is)
 
   -- nothing is taken and all is as it was
   nothing-taken : Within session rooms → left-after 0 (leftIn rooms (heldIn session rooms)) ≡ before
@@ -161,7 +161,7 @@ module _ (session : Session) (rooms : Rooms) (bytes : List ℕ) (place : ℕ) (l
     step-by : (answer : RecordAt) → recordAt (judgedBy session rooms last) (drop place bytes) ≡ answer
         → sessionStep session rooms bytes place last ≡ left-by (statusBy (heldIn session rooms) (drop place bytes) answer)
     unfolding afterStep
-    step-by answer is = step-done passed ∙ ap left-by (came answer (within (fitted session rooms passed)) is)
+    step-by answer is = step-done passed ∙ ap left-by (stepped-by answer (within (fitted session rooms passed)) is)
 
     -- the bytes end within a record, and the file goes on
     pub step-waits : recordAt (judgedBy session rooms last) (drop place bytes) ≡ More → (before, ok needsMore) ≡ sessionStep session rooms bytes place last

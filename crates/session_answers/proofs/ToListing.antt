@@ -15,9 +15,9 @@ use Rattle.session_answers.specs.declared.Adds.{Adds}
 use Rattle.session_answers.specs.declared.Adds.the-variants as shown
 
 -- what an answer comes to, where it is no refusal
-abbrev pub came-of : Status → Outcome Numbered Status → Status
-came-of other (ok came) = came
-came-of other (refused refusal) = other
+abbrev pub status-of : Status → Outcome Numbered Status → Status
+status-of other (ok status) = status
+status-of other (refused refusal) = other
 
 -- the text of what an answer shows
 abbrev shownText : List ℕ → Adds → List ℕ
@@ -25,19 +25,19 @@ shownText output (shown.One entry) = text (entrySays entry) output
 shownText output shown.Nothing = []
 
 -- an answer that is no refusal of the call shows the text of what the step comes to
-pub shows-text : (output : List ℕ) (answer : StepAnswer) {came : Status} → stepOutcome answer ≡ ok came → shownText output (adds answer) ≡ textOf output came
-shows-text output (answer.Listed entry) is = ap (λ (outcome : Outcome Numbered Status). textOf output (came-of needsMore outcome)) is
-shows-text output answer.End is = ap (λ (outcome : Outcome Numbered Status). textOf output (came-of needsMore outcome)) is
-shows-text output answer.More is = ap (λ (outcome : Outcome Numbered Status). textOf output (came-of needsMore outcome)) is
-shows-text output (answer.Stopped refusal) is = ap (λ (outcome : Outcome Numbered Status). textOf output (came-of needsMore outcome)) is
+pub shows-text : (output : List ℕ) (answer : StepAnswer) {status : Status} → stepOutcome answer ≡ ok status → shownText output (adds answer) ≡ textOf output status
+shows-text output (answer.Listed entry) is = ap (λ (outcome : Outcome Numbered Status). textOf output (status-of needsMore outcome)) is
+shows-text output answer.End is = ap (λ (outcome : Outcome Numbered Status). textOf output (status-of needsMore outcome)) is
+shows-text output answer.More is = ap (λ (outcome : Outcome Numbered Status). textOf output (status-of needsMore outcome)) is
+shows-text output (answer.Stopped refusal) is = ap (λ (outcome : Outcome Numbered Status). textOf output (status-of needsMore outcome)) is
 shows-text output (answer.Refused refusal) is = impossible cc
 
 -- and the run is over with it exactly where the listing doesn't go on, unless it waits for more bytes
-pub over-goes : (answer : StepAnswer) {came : Status} → stepOutcome answer ≡ ok came → (came ≡ needsMore → ⊥) → over answer ≡ not (goesOn came)
-over-goes (answer.Listed entry) is going = ap (λ (outcome : Outcome Numbered Status). not (goesOn (came-of needsMore outcome))) is
-over-goes answer.End is going = ap (λ (outcome : Outcome Numbered Status). not (goesOn (came-of needsMore outcome))) is
-over-goes answer.More is going = absurd (going (ap (came-of needsMore) (sym is)))
-over-goes (answer.Stopped refusal) is going = ap (λ (outcome : Outcome Numbered Status). not (goesOn (came-of needsMore outcome))) is
+pub over-goes : (answer : StepAnswer) {status : Status} → stepOutcome answer ≡ ok status → (status ≡ needsMore → ⊥) → over answer ≡ not (goesOn status)
+over-goes (answer.Listed entry) is going = ap (λ (outcome : Outcome Numbered Status). not (goesOn (status-of needsMore outcome))) is
+over-goes answer.End is going = ap (λ (outcome : Outcome Numbered Status). not (goesOn (status-of needsMore outcome))) is
+over-goes answer.More is going = absurd (going (ap (status-of needsMore) (sym is)))
+over-goes (answer.Stopped refusal) is going = ap (λ (outcome : Outcome Numbered Status). not (goesOn (status-of needsMore outcome))) is
 over-goes (answer.Refused refusal) is going = impossible cc
 
 -- an answer that waits shows nothing, and the run isn't over with it

@@ -98,10 +98,10 @@ module _ (session : Session) (rooms : Rooms) (bytes : List ℕ) (place : ℕ) (l
   call-answered = none-holds ((session, place), rooms) (afterStep session rooms bytes place last) (stepFaults session rooms) (roomy-clear ready)
 
   -- it answers what the step over what is held comes to
-  pub call-comes : {came : Status} → stepped last (heldIn session rooms) (drop place bytes) .1 ≡ came
-      → sessionStep session rooms bytes place last ≡ (left session rooms bytes place last, ok came)
+  pub call-comes : {status : Status} → stepped last (heldIn session rooms) (drop place bytes) .1 ≡ status
+      → sessionStep session rooms bytes place last ≡ (left session rooms bytes place last, ok status)
   unfolding afterStep
-  call-comes e = call-answered ∙ ap (λ (came : Status). (left session rooms bytes place last, ok came)) e
+  call-comes e = call-answered ∙ ap (λ (status : Status). (left session rooms bytes place last, ok status)) e
 
   -- and what it leaves is ready for the next
   pub stays-ready : let after = left session rooms bytes place last in Ready (after .0 .0) (after .1)

@@ -11,7 +11,7 @@ use Rattle.rules.specs.Lists.{joined}
 use Rattle.rules.proofs.Faults.{none-holds, accepted-clear}
 use Rattle.session_listing.specs.Text.{saysRefused, text}
 use Rattle.session_answers.specs.Status.{Status, listed}
-use Rattle.session_answers.proofs.ToListing.{came-of}
+use Rattle.session_answers.proofs.ToListing.{status-of}
 use Rattle.session.specs.Held.{Held, nothingHeld}
 use Rattle.session.specs.Record.{stepped}
 use Rattle.session.specs.Listing.{listing}
@@ -32,26 +32,26 @@ there-again room bytes = take-at bytes (drop (length bytes) room) (length bytes)
 pub held-again : (rooms : Rooms) (held : Held) → heldIn (sessionOf held) (roomsWith rooms held) ≡ held
 held-again rooms held = rw (there-again (rooms .table) (held .table), there-again (rooms .normal) (held .normal), there-again (rooms .overlay) (held .overlay)) refl
 
-module _ (session : Session) (rooms : Rooms) (bytes : List ℕ) (place : ℕ) (last : Bool) {left : Left} {came : Status}
-    (is : sessionStep session rooms bytes place last ≡ (left, ok came)) where
+module _ (session : Session) (rooms : Rooms) (bytes : List ℕ) (place : ℕ) (last : Bool) {left : Left} {status : Status}
+    (is : sessionStep session rooms bytes place last ≡ (left, ok status)) where
   -- what the step over what is held leaves and comes to
   abbrev step : (Held × ℕ) × Status
   step = stepped last (heldIn session rooms) (drop place bytes)
 
   -- a call that isn't refused is that step
-  call-is : (left, came) ≡ afterStep session rooms bytes place last
+  call-is : (left, status) ≡ afterStep session rooms bytes place last
   unfolding sessionStep
   call-is =
       let before : Left = ((session, place), rooms) in
       let done = afterStep session rooms bytes place last in
-      let clear = accepted-clear before done (stepFaults session rooms) came (ap (λ (all : Left × Outcome Numbered Status). all .1) is) in
+      let clear = accepted-clear before done (stepFaults session rooms) status (ap (λ (all : Left × Outcome Numbered Status). all .1) is) in
       let both = sym is ∙ none-holds before done (stepFaults session rooms) clear in
-      ap (λ (all : Left × Outcome Numbered Status). (all .0, came-of came (all .1))) both
+      ap (λ (all : Left × Outcome Numbered Status). (all .0, status-of status (all .1))) both
 
   -- it comes to the same
-  same-came : step .1 ≡ came
+  same-status : step .1 ≡ status
   unfolding afterStep
-  same-came = ap (λ (all : Left × Status). all .1) (sym call-is)
+  same-status = ap (λ (all : Left × Status). all .1) (sym call-is)
 
   -- what it leaves is what the step holds
   pub same-held : heldIn (left .0 .0) (left .1) ≡ step .0 .0
@@ -74,7 +74,7 @@ pub calls-steps : {session : Session} {rooms : Rooms} {bytes : List ℕ} {place 
 calls-steps {session} {rooms} {bytes} {place} (lends {next = next} {left = left} {more = more} {piece = piece} {at = at} {from = from} {pieces = pieces} {rest = rest} is behind others) =
     let held = heldIn session rooms in
     let unread = drop place bytes in
-    let waited = same-came session rooms bytes place false is in
+    let waited = same-status session rooms bytes place false is in
     let leaves = waiting-leaves false held unread waited in
     let held-is : heldIn next left ≡ held = same-held session rooms bytes place false is ∙ ap (λ (all : Held × ℕ). all .0) leaves in
     let unread-is : drop from more ≡ unread ++ piece =
@@ -85,15 +85,15 @@ calls-steps {session} {rooms} {bytes} {place} (lends {next = next} {left = left}
 calls-steps {session} {rooms} {bytes} {place} (lists {next = next} {left = left} {at = at} {pieces = pieces} {rest = rest} {entry = entry} is others) =
     let last = none pieces in
     let step = stepped last (heldIn session rooms) (drop place bytes) in
-    let lists-so : step ≡ (step .0, listed entry) = ap (λ (came : Status). (step .0, came)) (same-came session rooms bytes place last is) in
+    let lists-so : step ≡ (step .0, listed entry) = ap (λ (status : Status). (step .0, status)) (same-status session rooms bytes place last is) in
     subst (λ (output : List ℕ). Steps (heldIn session rooms) (drop place bytes) pieces (text entry output ++ rest)) (sym (same-output session rooms bytes place last is))
     (steps.lists lists-so
     (subst (λ (unread : List ℕ). Steps (step .0 .0) unread pieces rest) (same-place session rooms bytes place last is)
     (subst (λ (held : Held). Steps held (drop at bytes) pieces rest) (same-held session rooms bytes place last is) (calls-steps others))))
-calls-steps {session} {rooms} {bytes} {place} (ends {pieces = pieces} is) = steps.ends (same-came session rooms bytes place (none pieces) is)
+calls-steps {session} {rooms} {bytes} {place} (ends {pieces = pieces} is) = steps.ends (same-status session rooms bytes place (none pieces) is)
 calls-steps {session} {rooms} {bytes} {place} (stops {pieces = pieces} {refusal = refusal} is) =
     let last = none pieces in
-    let stopped-so = same-came session rooms bytes place last is in
+    let stopped-so = same-status session rooms bytes place last is in
     let output-is =
     same-output session rooms bytes place last is
     ∙ ap (λ (all : Held × ℕ). all .0 .output) (stopped-leaves last (heldIn session rooms) (drop place bytes) stopped-so) in

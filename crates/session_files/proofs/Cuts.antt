@@ -93,12 +93,12 @@ Lists held unread pieces = (listing : List ℕ) × Steps held unread pieces list
 module _ (held : Held) (next : (after : Held) → after .records ≡ held .records + 1 → held .records + 1 ≤ 1000000 → (unread : List ℕ) (pieces : List (List ℕ)) → Lists after unread pieces) where
   module _ (unread : List ℕ) (pieces : List (List ℕ)) (more : stepped (none pieces) held unread .1 ≡ needsMore → Lists held unread pieces) where
     -- by what the step comes to
-    ends-by : (came : Status) → stepped (none pieces) held unread .1 ≡ came → Lists held unread pieces
+    ends-by : (status : Status) → stepped (none pieces) held unread .1 ≡ status → Lists held unread pieces
     ends-by (listed entry) e =
         let taken = stepped (none pieces) held unread .0 .1 in
         let after = stepped (none pieces) held unread .0 .0 in
         let rest = next after (listed-counts (none pieces) held unread e) (omega (arith, listed-below (none pieces) held unread e)) (drop taken unread) pieces in
-        (text entry (after .output) ++ rest .0, lists (ap (λ (came : Status). ((after, taken), came)) e) (rest .1))
+        (text entry (after .output) ++ rest .0, lists (ap (λ (status : Status). ((after, taken), status)) e) (rest .1))
     ends-by ended e = ([], ends e)
     ends-by needsMore e = more e
     ends-by (stopped refusal) e = (text (saysRefused refusal) (held .output), stops e)

@@ -54,7 +54,7 @@ module _ (held : Held) (bytes : List ℕ) where
   stopped-exactly refusal e = first-verdict (recordFaults (contextOf held true) bytes) refusal (sym told-so ∙ ap verdictOf e)
 
   -- only a stop says a fault
-  stopped-by : (came : Status) {refusal : Numbered} → verdictOf came ≡ refused refusal → came ≡ stopped refusal
+  stopped-by : (status : Status) {refusal : Numbered} → verdictOf status ≡ refused refusal → status ≡ stopped refusal
   stopped-by (listed entry) e = impossible cc
   stopped-by ended e = impossible cc
   stopped-by needsMore e = impossible cc

@@ -24,8 +24,8 @@ step-requires c κs = search needs
 put-text-requires : tie.Need-put-text-requires
 put-text-requires c κs = search needs
 
-came-to-requires : tie.Need-came-to-requires
-came-to-requires c κs = search needs
+status-in-numbers-requires : tie.Need-status-in-numbers-requires
+status-in-numbers-requires c κs = search needs
 
 same-length : tie.Need-same-length
 same-length c = search needs
@@ -51,7 +51,7 @@ returns-2 c =
     let rooms = roomsOf (now (given .store)) (now (given .table)) (now (given .normal)) (now (given .overlay)) (now (given .output)) in
     let stepped = c .before .before .before .before .before .before .before .before .before .before .before .before .before .before .before .before .before .before .step in
     let put = c .before .before .before .before .before .put-text in
-    rw (c .before .before .came-to .ensures)
+    rw (c .before .before .status-in-numbers .ensures)
     (step-made (given .session) rooms (now (given .text)) (now (given .bytes)) (given .place) (not (eqb (given .last) 0)) (stepped .ensures) (put .ensures) (same-length-5 c)
     (c .before .before .before .before .before .before .before .before .before .before .before .before .before .before .before .before .before .before .before .before .before .before .before .before .if1 .left))
 
@@ -63,7 +63,7 @@ bulitampaw-step-spec =
     returns
     step-requires
     put-text-requires
-    came-to-requires
+    status-in-numbers-requires
     same-length
     same-length-2
     same-length-3

@@ -1,11 +1,11 @@
--- `c_session::steps::came_to` meets its contract: the answer, case by case. Assumes nothing.
+-- `c_session::steps::status_in_numbers` meets its contract: the answer, case by case. Assumes nothing.
 use mathlib.Core.Path.{ap, sym, _≡_}
 use borrow.Author.Needs.{needs}
 use Rattle.session_answers.specs.Status.{stepOutcome}
 use Rattle.session_answers.specs.declared.StepAnswer.{StepAnswer}
 use Rattle.c_session.specs.Steps.{statusInNumbers}
-use Rattle.c_session.proofs.steps.came_to.Statement.{statement}
-use Rattle.c_session.proofs.steps.came_to.Tie as tie
+use Rattle.c_session.proofs.steps.status_in_numbers.Statement.{statement}
+use Rattle.c_session.proofs.steps.status_in_numbers.Tie as tie
 
 -- equal answers come to the same
 same : {answer other : StepAnswer} → answer ≡ other → statusInNumbers (stepOutcome answer) ≡ statusInNumbers (stepOutcome other)
@@ -56,8 +56,8 @@ returns-4 c = rw (c .nothing2 .ensures) (same (sym (c .before .enum-told2 .given
 returns-5 : tie.Need-returns-5
 returns-5 c = rw (c .refused-by2 .ensures) (same (sym (c .before .before .answer3 .given .1)))
 
-pub came-to-spec : {M : Type 1} → statement M
-came-to-spec =
+pub status-in-numbers-spec : {M : Type 1} → statement M
+status-in-numbers-spec =
     tie.close
     (tie.spec
     enum-known-answer
