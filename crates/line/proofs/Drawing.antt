@@ -16,10 +16,10 @@ use Rattle.refusals.specs.declared.Refusal.{Refusal}
 use Rattle.line_colour.specs.declared.entry.WindowEntry.{WindowEntry}
 use Rattle.line_pixels.specs.Cells.{pixelView}
 use Rattle.line_pixels.specs.Colour.{overlayCounts, colourOfPixel}
+use Rattle.line_pixels.specs.declared.Screen.{Screen}
 use Rattle.line_setup.specs.declared.controls.Controls.{Controls}
-use Rattle.line.specs.Screen.{screenOf}
 use Rattle.line.specs.Cells.{Lent, lentOf}
-use Rattle.line.specs.Inner.{InRange, RunAnswer, Entries, colourBy, colourAt, Enough}
+use Rattle.line.specs.Inner.{InRange, FitsScreen, RunAnswer, Entries, colourBy, colourAt, Enough}
 use Rattle.line.specs.declared.runs.Run.{Run}
 use Rattle.line.specs.declared.runs.RunAt.the-variants.{Is, Refused}
 use Rattle.line.proofs.Pass.{Passing, pass-start, pass-run}
@@ -29,7 +29,7 @@ first-on : (first second : Bool) → first && second ≡ true → first ≡ true
 first-on true second e = refl
 first-on false second e = e
 
-module _ (controls : Controls) (y : ℕ) (store table normal overlay : List ℕ) (start : ℕ) where
+module _ (controls : Controls) (screen : Screen) (store table normal overlay : List ℕ) (start : ℕ) where
   -- what is lent
   abbrev lent : Lent
   lent = lentOf store table normal overlay
@@ -38,7 +38,7 @@ module _ (controls : Controls) (y : ℕ) (store table normal overlay : List ℕ)
   pub record Drawing (before now : List ℕ) (x from : ℕ) : Type 0 where
     pub passing : Passing controls store table start x from
     pub long : length now ≡ length before
-    pub list : now ≡ filled (colourAt controls y lent start) 0 before x
+    pub list : now ≡ filled (colourAt controls screen lent start) 0 before x
 
   -- before the first run
   pub draw-start : (output : List ℕ) → Drawing output output 0 0
@@ -46,39 +46,39 @@ module _ (controls : Controls) (y : ℕ) (store table normal overlay : List ℕ)
 
   -- a pixel of a run has the colour that the run's entry gives it
   run-colour : {x : ℕ} (found : Run) → RunAnswer controls store table start x (Is found) → (p : ℕ) → x ≤ p → p < found .end
-      → value (pixelView store normal overlay) (colourOfPixel (screenOf controls y) (found .entry) p) ≡ colourAt controls y lent start p
+      → value (pixelView store normal overlay) (colourOfPixel screen (found .entry) p) ≡ colourAt controls screen lent start p
   unfolding colourAt
   run-colour found told p low high =
-      ap (λ (outcome : Outcome Numbered WindowEntry). colourBy (pixelView store normal overlay) (screenOf controls y) p outcome) (sym (told .4 normal overlay p low high))
+      ap (λ (outcome : Outcome Numbered WindowEntry). colourBy (pixelView store normal overlay) screen p outcome) (sym (told .4 normal overlay p low high))
 
   module _ {before now : List ℕ} {x from : ℕ} (here : Drawing before now x from) (enough : Enough controls lent before) (found : Run)
       (told : RunAnswer controls store table start x (Is found)) where
     -- one run on, which was lent the output from its first pixel on
     pub draw-run : (last : List ℕ)
-        → last ≡ filled (λ p. value (pixelView store normal overlay) (colourOfPixel (screenOf controls y) (found .entry) p)) x (take (length now - x) (drop x now)) (found .end - x)
+        → last ≡ filled (λ p. value (pixelView store normal overlay) (colourOfPixel screen (found .entry) p)) x (take (length now - x) (drop x now)) (found .end - x)
         → Drawing before (putMid x (length now - x) now last) (found .end) (found .next)
     draw-run last run =
-        let list = fill-run (colourAt controls y lent start) _ x (found .end) before now last (omega (arith, told .0)) (here .list) run (run-colour found told) in
+        let list = fill-run (colourAt controls screen lent start) _ x (found .end) before now last (omega (arith, told .0)) (here .list) run (run-colour found told) in
         record {
           passing = pass-run controls store table start (here .passing) told;
-          long = ap length list ∙ filled-length (colourAt controls y lent start) 0 before (found .end) (omega (arith, told .1, enough .output-long));
+          long = ap length list ∙ filled-length (colourAt controls screen lent start) 0 before (found .end) (omega (arith, told .1, enough .output-long));
           list = list;
         }
 
     -- there are pixels for it in the normal row
-    pub normal-reaches : InRange controls → (x + (found .end - x)) * (screenOf controls y .depth / 8) ≤ length normal
-    normal-reaches sized =
+    pub normal-reaches : InRange controls → FitsScreen controls screen → (x + (found .end - x)) * (screen .depth / 8) ≤ length normal
+    normal-reaches sized fits =
         let sum : x + (found .end - x) ≡ found .end = omega (arith, told .0) in
-        rw (sum, enough .normal-long)
+        rw (sum, fits .same-depth, enough .normal-long)
         (⊎-elim
         (λ (at : controls .depth ≡ 16). rw at (omega (arith, told .1)))
         (λ (at : controls .depth ≡ 32). rw at (omega (arith, told .1)))
         (sized .at-depth))
 
     -- and in the overlay row where overlay counts
-    pub overlay-reaches : overlayCounts (screenOf controls y) (found .entry) ≡ true → x + (found .end - x) ≤ length overlay
-    overlay-reaches counts =
-        let long = enough .overlay-long (first-on (controls .overlay) (found .entry .overlay) counts) in
+    pub overlay-reaches : FitsScreen controls screen → overlayCounts screen (found .entry) ≡ true → x + (found .end - x) ≤ length overlay
+    overlay-reaches fits counts =
+        let long = enough .overlay-long (sym (fits .same-overlay) ∙ first-on (screen .overlay) (found .entry .overlay) counts) in
         omega (arith, told .0, told .1, long)
 
     -- and room for it in the output

@@ -69,7 +69,7 @@ module _ (setup : Setup) (lent : Lent) where
 -- a line that may be drawn has the colours of its pixels
 pub line-drawn : (setup : Setup) (store table normal overlay : List ℕ) (start : ℕ) → length table ≡ setup .lengths .table → Drawable setup store table start
     → run (view (lentOf store table normal overlay)) (lineRule setup)
-    ≡ ok (values (colourAt (setup .controls) (setup .y) (lentOf store table normal overlay) start) (setup .controls .width) 0)
+    ≡ ok (values (colourAt (setup .controls) (screenIn setup) (lentOf store table normal overlay) start) (setup .controls .width) 0)
 unfolding coloursOf colourAt
 line-drawn setup store table normal overlay start long drawable =
     let lent = lentOf store table normal overlay in
@@ -80,7 +80,7 @@ line-drawn setup store table normal overlay start long drawable =
     (rw (sym long) (entries-run (setup .controls) store table start (drawable .entries) normal overlay))
     ∙ ap (λ (rule : Rule Numbered Cell (List ℕ)). run memory rule)
     (each-of-values (λ (entry : WindowEntry) (x : ℕ). inColours (colourOfPixel screen entry x)) found (setup .controls .width) 0)
-    ∙ each-ok memory (λ (x : ℕ). inColours (colourOfPixel screen (found x) x)) (colourAt (setup .controls) (setup .y) lent start) (setup .controls .width) 0
+    ∙ each-ok memory (λ (x : ℕ). inColours (colourOfPixel screen (found x) x)) (colourAt (setup .controls) (screenIn setup) lent start) (setup .controls .width) 0
     (λ x low high.
     run-within-value _ ofColour memory (colourOfPixel screen (found x) x)
     ∙ ap (λ (outcome : Outcome Numbered WindowEntry). ok (colourBy (pixelView store normal overlay) screen x outcome))

@@ -27,7 +27,6 @@ use Rattle.line_pixels.specs.declared.Screen.{Screen}
 use Rattle.line_setup.specs.Faults.{normalLength, lineFaults}
 use Rattle.line_setup.specs.declared.controls.Controls.{Controls}
 use Rattle.line_setup.specs.declared.setup.Setup.{Setup}
-use Rattle.line.specs.Screen.{screenOf}
 use Rattle.line.specs.Cells.{Cell, Lent, lentOf, view}
 use Rattle.line.specs.Line.{startOf, idAt, windowEntryAt, lineRule}
 use Rattle.line.specs.declared.runs.RunAt.{RunAt}
@@ -37,6 +36,11 @@ use Rattle.line.specs.declared.runs.RunAt.the-variants.{Is, Refused as N
 pub record InRange (controls : Controls) : Type 0 where
   pub width-le : controls .width ≤ 2048
   pub at-depth : (controls .depth ≡ 16) ⊎ (controls .depth ≡ 32)
+
+-- the depth and the overlay switch that the pixels are drawn by are those of the control words
+pub record FitsScreen (controls : Controls) (screen : Screen) : Type 0 where
+  pub same-depth : screen .depth ≡ controls .depth
+  pub same-overlay : screen .overlay ≡ controls .overlay
 
 -- this holds over a store and a table, whatever the rows hold
 abbrev pub Over : List ℕ → List ℕ → ((Cell → ℕ) → Type 0) → Type 0
@@ -102,9 +106,9 @@ colourBy memory screen x (ok entry) = value memory (colourOfPixel screen entry x
 colourBy memory screen x (refused refusal) = 0
 
 -- the colour of pixel x of a line whose table starts there
-unfoldable pub colourAt : Controls → ℕ → Lent → ℕ → ℕ → ℕ
-colourAt controls y lent start x =
-    colourBy (pixelView (lent .store) (lent .normal) (lent .overlay)) (screenOf controls y) x
+unfoldable pub colourAt : Controls → Screen → Lent → ℕ → ℕ → ℕ
+colourAt controls screen lent start x =
+    colourBy (pixelView (lent .store) (lent .normal) (lent .overlay)) screen x
     (run (view lent) (windowEntryAt controls (length (lent .table)) start x))
 
 -- what is lent is long enough to draw the active width
@@ -115,5 +119,5 @@ pub record Enough (controls : Controls) (lent : Lent) (output : List ℕ) : Type
   pub output-long : controls .width ≤ length output
 
 -- the output with the colours of the active width
-abbrev pub coloured : Controls → ℕ → Lent → ℕ → List ℕ → List ℕ
-coloured controls y lent start output = filled (colourAt controls y lent start) 0 output (controls .width)
+abbrev pub coloured : Controls → Screen → Lent → ℕ → List ℕ → List ℕ
+coloured controls screen lent start output = filled (colourAt controls screen lent start) 0 output (controls .width)

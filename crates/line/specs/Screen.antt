@@ -1,22 +1,16 @@
--- What the control words say of every pixel of a line.
-use Prim.Native.Nat.{ℕ}
+-- What a line goes by of every pixel.
 use Rattle.line_pixels.specs.declared.Screen.{Screen}
-use Rattle.line_setup.specs.declared.controls.Controls.{Controls}
 use Rattle.line_setup.specs.declared.setup.Setup.{Setup}
 
--- what they say of every pixel of line y
-abbrev pub screenOf : Controls → ℕ → Screen
-screenOf controls y =
-    record {
-      overlay = controls .overlay;
-      cursor = controls .cursor;
-      crosshair = controls .crosshair;
-      depth = controls .depth;
-      cx = controls .cx;
-      cy = controls .cy;
-      y = y;
-    }
-
--- the same by what a line goes by
+-- the switches, the depth, where the cursor is, and the line's number
 abbrev pub screenIn : Setup → Screen
-screenIn setup = screenOf (setup .controls) (setup .y)
+screenIn setup =
+    record {
+      overlay = setup .controls .overlay;
+      cursor = setup .controls .cursor;
+      crosshair = setup .controls .crosshair;
+      depth = setup .controls .depth;
+      cx = setup .controls .cx;
+      cy = setup .controls .cy;
+      y = setup .y;
+    }

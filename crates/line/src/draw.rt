@@ -2,6 +2,7 @@
 ghost use mathlib.Core.Path.{_≡_};
 ghost use lib.ListN.{length};
 ghost use Rattle.refusals.specs.Refusal.{answerOutcome};
+ghost use Rattle.line.specs.Screen.{screenIn};
 ghost use Rattle.line.specs.Cells.{lentOf};
 ghost use Rattle.line.specs.Drawn.{setupOf, drawn};
 ghost use Rattle.line.specs.Inner.{StartAnswer, CheckedAnswer};
@@ -9,12 +10,12 @@ use crate::passes::check_runs;
 use crate::passes::draw_runs;
 use crate::request::Request;
 use chip::state::State;
+use line_pixels::Screen;
 use line_setup::controls::Controls;
 use line_setup::setup::Lengths;
 use line_setup::setup::Setup;
 use line_windows::frame::LineTable;
 use refusals::Answer;
-use refusals::Refusal;
 
 // The state that a line hands back, and its answer.
 pub struct Drawn {
@@ -59,6 +60,22 @@ fn start(controls: Controls, table: &[u8], y: u32) -> LineTable
     LineTable::Starts(0)
 }
 
+// What a line goes by of every pixel.
+fn screen(setup: Setup) -> Screen
+    ensures { λ r. ⌜ r ≡ screenIn setup ⌝ }
+{
+    let controls = setup.controls;
+    Screen {
+        overlay: controls.overlay,
+        cursor: controls.cursor,
+        crosshair: controls.crosshair,
+        depth: controls.depth,
+        cx: controls.cx as usize,
+        cy: controls.cy as usize,
+        y: setup.y as usize,
+    }
+}
+
 // Every check of a line, pixel by pixel too: where its line table starts, or the refusal.
 fn checked(setup: Setup, store: &[u32], table: &[u8]) -> LineTable
     requires { ⌜ (length (now store) ≡ setup .lengths .store) × (length (now table) ≡ setup .lengths .table) ⌝ }
@@ -101,7 +118,8 @@ pub fn draw(
         },
         LineTable::Starts(start) => {
             let controls = setup.controls;
-            draw_runs(controls, setup.y, store, table, start, normal, overlay, out);
+            let screen = screen(setup);
+            draw_runs(controls, screen, store, table, start, normal, overlay, out);
             Drawn {
                 state,
                 answer: Answer::Done,

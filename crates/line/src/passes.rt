@@ -2,9 +2,8 @@
 ghost use mathlib.Core.Path.{_≡_};
 ghost use lib.ListN.{length};
 ghost use Rattle.chip_registers.specs.Store.{storeLength};
-ghost use Rattle.line.specs.Screen.{screenOf};
 ghost use Rattle.line.specs.Cells.{lentOf};
-ghost use Rattle.line.specs.Inner.{InRange, Entries, EntriesAnswer, Enough, coloured};
+ghost use Rattle.line.specs.Inner.{InRange, FitsScreen, Entries, EntriesAnswer, Enough, coloured};
 use crate::runs::RunAt;
 use crate::runs::run_at;
 use line_pixels::Screen;
@@ -31,25 +30,10 @@ pub(crate) fn check_runs(controls: Controls, store: &[u32], table: &[u8], start:
     Answer::Done
 }
 
-// What the control words say of every pixel of line y.
-fn screen(controls: Controls, y: u32) -> Screen
-    ensures { λ r. ⌜ r ≡ screenOf controls y ⌝ }
-{
-    Screen {
-        overlay: controls.overlay,
-        cursor: controls.cursor,
-        crosshair: controls.crosshair,
-        depth: controls.depth,
-        cx: controls.cx as usize,
-        cy: controls.cy as usize,
-        y: y as usize,
-    }
-}
-
 // The second pass: every run is lent the rest of the output, from where it begins.
 pub(crate) fn draw_runs(
     controls: Controls,
-    y: u32,
+    screen: Screen,
     store: &[u32],
     table: &[u8],
     start: usize,
@@ -57,10 +41,9 @@ pub(crate) fn draw_runs(
     overlay: &[u8],
     out: &mut [u32],
 )
-    requires { ⌜ InRange controls × Enough controls (lentOf (now store) (now table) (now normal) (now overlay)) (now out) × Entries controls (now store) (now table) start ⌝ }
-    ensures { λ _. ⌜ now (out .exit) ≡ coloured controls y (lentOf (now (store .entry)) (now (table .entry)) (now (normal .entry)) (now (overlay .entry))) start (now (out .entry)) ⌝ }
+    requires { ⌜ InRange controls × FitsScreen controls screen × Enough controls (lentOf (now store) (now table) (now normal) (now overlay)) (now out) × Entries controls (now store) (now table) start ⌝ }
+    ensures { λ _. ⌜ now (out .exit) ≡ coloured controls screen (lentOf (now (store .entry)) (now (table .entry)) (now (normal .entry)) (now (overlay .entry))) start (now (out .entry)) ⌝ }
 {
-    let screen = screen(controls, y);
     let mut x = 0;
     let mut from = 0;
     while x < controls.width {

@@ -1,17 +1,19 @@
 -- `line::draw::draw` meets its contract: every check, and then every run. Assumes nothing.
 use Prim.Native.Nat.{ℕ}
 use mathlib.Core.List.{List}
-use mathlib.Core.Path.{ap, subst, _∙_}
+use mathlib.Core.Path.{refl, ap, subst, _∙_}
 use borrow.Author.Needs.{needs}
 use denote.Ref.{now}
 use Rattle.rules.specs.Rule.{ok}
 use Rattle.line_windows.specs.declared.frame.LineTable.{LineTable}
+use Rattle.line_pixels.specs.declared.Screen.{Screen}
 use Rattle.line.specs.Cells.{lentOf}
-use Rattle.line.specs.Inner.{CheckedAnswer, Drawable}
+use Rattle.line.specs.Inner.{CheckedAnswer, Drawable, coloured}
 use Rattle.line.proofs.Result.{lengths-lent, setup-sized, enough-lent, drawn-by}
 use Rattle.line.proofs.Whole.{line-drawn}
 use Rattle.line.proofs.draw.checked.Reads as checked-reads
 use Rattle.line.proofs.draw.draw.Reads as reads
+use Rattle.line.proofs.draw.screen.Reads as screen-reads
 use Rattle.line.proofs.draw.setup.Reads as setup-reads
 use Rattle.line.proofs.passes.draw_runs.Reads as draw-runs-reads
 use Rattle.line.proofs.draw.draw.Lts as lts
@@ -20,7 +22,7 @@ use Rattle.line.proofs.draw.draw.Tie as tie
 
 -- what the checks answered, where the line may be drawn
 drawable :
-    (c : lts.After-known-told2 (setup-reads.Asked, setup-reads.Learnt, checked-reads.Asked, checked-reads.Learnt, draw-runs-reads.Asked, draw-runs-reads.Learnt) reads.Pre reads.Post) →
+    (c : lts.After-known-told2 (setup-reads.Asked, setup-reads.Learnt, checked-reads.Asked, checked-reads.Learnt, screen-reads.Asked, screen-reads.Learnt, draw-runs-reads.Asked, draw-runs-reads.Learnt) reads.Pre reads.Post) →
     let made = c .before .before .before .before .before in
     let given = made .before .before .before .before .before .before .args in
     Drawable (made .setup .result) (now (given .store)) (now (given .table)) (c .before .checked3 .given .0 .0)
@@ -45,13 +47,17 @@ enum-known-checked c = search needs
 enum-known-checked-2 : tie.Need-enum-known-checked-2
 enum-known-checked-2 c = search needs
 
+screen-requires : tie.Need-screen-requires
+screen-requires c κs = search needs
+
 draw-runs-requires : tie.Need-draw-runs-requires
 draw-runs-requires c κs =
-    let ready = drawable (c .before .before) in
-    let made = c .before .before .before .before .before .before .before in
+    let ready = drawable (c .before .before .before) in
+    let made = c .before .before .before .before .before .before .before .before in
     let given = made .before .before .before .before .before .before .args in
     let lent = lentOf (now (given .store)) (now (given .table)) (now (given .normal)) (now (given .overlay)) in (
       setup-sized (given .request) lent (now (given .out)) (made .setup .result) (made .setup .ensures),
+      rw (c .before .screen .ensures) (record { same-depth = refl; same-overlay = refl }),
       enough-lent (given .request) lent (now (given .out)) (made .setup .result) (made .setup .ensures) (ready .fit),
       ready .entries,
     )
@@ -69,11 +75,13 @@ same-length c = search needs
 
 returns-2 : tie.Need-returns-2
 returns-2 c =
-    let told = c .before .before .before .before .before in
+    let told = c .before .before .before .before .before .before in
     let made = told .before .before .before .before .before in
     let given = made .before .before .before .before .before .before .args in
     let lent = lentOf (now (given .store)) (now (given .table)) (now (given .normal)) (now (given .overlay)) in
-    ap (λ (output : List ℕ). ((given .request .state, output), ok tt)) (c .before .before .draw-runs .ensures)
+    let called = c .before .before in
+    ap (λ (output : List ℕ). ((given .request .state, output), ok tt))
+    (called .draw-runs .ensures ∙ ap (λ (screen : Screen). coloured (made .setup .result .controls) screen lent (told .before .checked3 .given .0 .0) (now (given .out))) (called .before .before .screen .ensures))
     ∙ drawn-by (given .request) lent (now (given .out)) (made .setup .result) (made .setup .ensures)
     (line-drawn (made .setup .result) (now (given .store)) (now (given .table)) (now (given .normal)) (now (given .overlay)) (told .before .checked3 .given .0 .0) (lengths-lent (given .request) lent (now (given .out)) (made .setup .result) (made .setup .ensures) .1) (drawable told))
 
@@ -85,6 +93,7 @@ draw-spec =
     checked-requires
     enum-known-checked
     enum-known-checked-2
+    screen-requires
     draw-runs-requires
     returns
     same-length
