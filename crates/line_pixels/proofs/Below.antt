@@ -100,7 +100,7 @@ module _ (store normal overlay : List ℕ) where
     under-below = then-below (overlayAt screen entry x) _ (λ byte. either-below (eqb byte 0) _ _ plain-below (overlaid-below byte))
 
     -- a cursor colour
-    cursor-below : (number : ℕ) → Below (cursorShown entry number)
+    cursor-below : (number : ℕ) → Below (cursorShown screen entry number)
     unfolding cursorShown
     cursor-below number = gamma-below _ _ (kept-below _)
 

@@ -17,7 +17,7 @@ use Rattle.line_colour.specs.declared.entry.Shown.{Shown}
 use Rattle.line_colour.specs.declared.entry.Shown.the-variants.{MapEntry, Colour}
 use Rattle.line_pixels.specs.Cells.{PixelCell, cursorColour, overlayByte, sample, mapEntry}
 use Rattle.line_pixels.specs.Cursor.{cursorAt}
-use Rattle.line_pixels.specs.Colour.{ofCursor, ofOverlay, ofNormal, skipsGamma, throughGamma, shownColour, normalAt, plainAt, overlayColours, overlaid, overlayCounts, overlayAt, underCursor, cursorShown, colourOfPixel}
+use Rattle.line_pixels.specs.Colour.{cursorSkipsGamma, throughGamma, shownColour, normalAt, plainAt, overlayColours, overlaid, overlayCounts, overlayAt, underCursor, cursorShown, colourOfPixel}
 use Rattle.line_pixels.specs.declared.Screen.{Screen}
 
 module _ (memory : PixelCell → ℕ) (depth : ℕ) (entry : WindowEntry) (x : ℕ) {word : ℕ} where
@@ -38,10 +38,10 @@ module _ (memory : PixelCell → ℕ) (depth : ℕ) (entry : WindowEntry) (x : �
   normal-of-colour shows is = normal-of shows is
 
   -- a plain colour is the normal one through gamma
-  pub plain-of-normal : {normal : ℕ} → normal ≡ value memory (normalAt depth entry x) → word ≡ value memory (throughGamma (skipsGamma ofNormal entry) normal)
+  pub plain-of-normal : {normal : ℕ} → normal ≡ value memory (normalAt depth entry x) → word ≡ value memory (throughGamma (entry .bypass) normal)
       → word ≡ value memory (plainAt depth entry x)
   unfolding plainAt
-  plain-of-normal of is = rw (value-then memory (normalAt depth entry x) (throughGamma (skipsGamma ofNormal entry)), ← of) is
+  plain-of-normal of is = rw (value-then memory (normalAt depth entry x) (throughGamma (entry .bypass)), ← of) is
 
 module _ (memory : PixelCell → ℕ) (screen : Screen) (entry : WindowEntry) (x : ℕ) where
   -- overlay counts
@@ -62,7 +62,7 @@ module _ (memory : PixelCell → ℕ) (screen : Screen) (entry : WindowEntry) (x
 
     -- overlay shows
     pub under-overlay : (byte ≡ 0 → ⊥) → {mapped : ℕ} → mapped ≡ memory (mapEntry (overlayColours + byte))
-        → word ≡ value memory (throughGamma (skipsGamma ofOverlay entry) mapped) → word ≡ value memory (underCursor screen entry x)
+        → word ≡ value memory (throughGamma (entry .bypass) mapped) → word ≡ value memory (underCursor screen entry x)
     unfolding underCursor overlaid
     under-overlay some map is = rw map at is ∙ sym (value-then memory (overlayAt screen entry x) _ ∙ rw (← of, ne-eqb byte 0 some))
 
@@ -74,7 +74,7 @@ module _ (memory : PixelCell → ℕ) (screen : Screen) (entry : WindowEntry) (x
 
     -- one does
     pub colour-of-cursor : (number ≡ 0 → ⊥) → {stored : ℕ} → stored ≡ memory (cursorColour number)
-        → word ≡ value memory (throughGamma (skipsGamma ofCursor entry) stored) → word ≡ value memory (colourOfPixel screen entry x)
+        → word ≡ value memory (throughGamma (cursorSkipsGamma screen entry) stored) → word ≡ value memory (colourOfPixel screen entry x)
     unfolding colourOfPixel cursorShown
     colour-of-cursor some holds is = rw holds at is ∙ sym (value-then memory (cursorAt screen x) _ ∙ rw (← of, ne-eqb number 0 some))
 

@@ -24,11 +24,15 @@ SaidAt depth entry = (word : ℕ) × (decoded word depth ≡ Defined entry)
 pub data Layer : Type 0 where
   ofCursor ofOverlay ofNormal : Layer
 
--- a cursor colour is shown as it is stored, a normal or an overlay colour where the window entry bypasses gamma
-abbrev pub skipsGamma : Layer → WindowEntry → Bool
-skipsGamma ofCursor entry = true
-skipsGamma ofOverlay entry = entry .bypass
-skipsGamma ofNormal entry = entry .bypass
+-- a cursor colour is shown as it is stored, whatever the screen and the window entry under the cursor say
+abbrev pub cursorSkipsGamma : Screen → WindowEntry → Bool
+cursorSkipsGamma screen entry = true
+
+-- whether the colour of a layer is shown as it is stored: a normal or an overlay colour is where the window entry bypasses gamma
+abbrev pub skipsGamma : Screen → WindowEntry → Layer → Bool
+skipsGamma screen entry ofCursor = cursorSkipsGamma screen entry
+skipsGamma screen entry ofOverlay = entry .bypass
+skipsGamma screen entry ofNormal = entry .bypass
 
 -- the same channel of the gamma word that a channel of a colour indexes
 abbrev pub correctedIn : Channel → ℕ → Rule ⊥ PixelCell ℕ
@@ -55,7 +59,7 @@ normalAt depth entry x = do
 
 -- that colour through gamma
 unfoldable pub plainAt : ℕ → WindowEntry → ℕ → Rule ⊥ PixelCell ℕ
-plainAt depth entry x = normalAt depth entry x >>= throughGamma (skipsGamma ofNormal entry)
+plainAt depth entry x = normalAt depth entry x >>= throughGamma (entry .bypass)
 
 -- the map entry of overlay byte 0: the overlay colours stand from it on, that of a byte as many entries behind it
 abbrev pub overlayColours : ℕ
@@ -63,7 +67,7 @@ overlayColours = 4352
 
 -- the colour of an overlay byte, through gamma
 unfoldable pub overlaid : WindowEntry → ℕ → Rule ⊥ PixelCell ℕ
-overlaid entry byte = get (mapEntry (overlayColours + byte)) >>= throughGamma (skipsGamma ofOverlay entry)
+overlaid entry byte = get (mapEntry (overlayColours + byte)) >>= throughGamma (entry .bypass)
 
 -- overlay is looked at where the control word and the window entry both say so
 abbrev pub overlayCounts : Screen → WindowEntry → Bool
@@ -79,12 +83,12 @@ underCursor screen entry x = do
   byte ← overlayAt screen entry x
   cond (eqb byte 0) (plainAt (screen .depth) entry x) (overlaid entry byte)
 
--- a cursor colour
-unfoldable pub cursorShown : WindowEntry → ℕ → Rule ⊥ PixelCell ℕ
-cursorShown entry number = get (cursorColour number) >>= throughGamma (skipsGamma ofCursor entry)
+-- a cursor colour over a window entry
+unfoldable pub cursorShown : Screen → WindowEntry → ℕ → Rule ⊥ PixelCell ℕ
+cursorShown screen entry number = get (cursorColour number) >>= throughGamma (cursorSkipsGamma screen entry)
 
 -- the colour of a pixel: the cursor's where one shows
 unfoldable pub colourOfPixel : Screen → WindowEntry → ℕ → Rule ⊥ PixelCell ℕ
 colourOfPixel screen entry x = do
   number ← cursorAt screen x
-  cond (eqb number 0) (underCursor screen entry x) (cursorShown entry number)
+  cond (eqb number 0) (underCursor screen entry x) (cursorShown screen entry number)

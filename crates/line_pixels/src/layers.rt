@@ -6,7 +6,7 @@ ghost use lib.ListN.{length};
 ghost use Rattle.rules.specs.Rule.{get, value};
 ghost use Rattle.chip_registers.specs.Store.{storeLength};
 ghost use Rattle.line_pixels.specs.Cells.{mapEntry, pixelWord, pixelView};
-ghost use Rattle.line_pixels.specs.Colour.{throughGamma, normalAt, plainAt, overlayCounts, overlayAt, underCursor, colourOfPixel};
+ghost use Rattle.line_pixels.specs.Colour.{cursorSkipsGamma, throughGamma, normalAt, plainAt, overlayCounts, overlayAt, underCursor, colourOfPixel};
 ghost use Rattle.line_pixels.specs.Sampling.{samplingOf};
 ghost use Rattle.line_pixels.specs.Inner.{PlainLent, OverlayLent, PixelsLent, OverStore, OverNormal, OverOverlay};
 use crate::Screen;
@@ -136,6 +136,13 @@ impl Screen {
         through_gamma(store, entry.bypass, mapped(store, 4352 + byte))
     }
 
+    // Whether a cursor colour over a window entry is shown as it is stored: each is.
+    fn cursor_skips_gamma(self, entry: WindowEntry) -> bool
+        ensures { λ r. ⌜ r ≡ cursorSkipsGamma self entry ⌝ }
+    {
+        true
+    }
+
     // The colour of a pixel.
     pub(crate) fn colour_of(
         self,
@@ -156,6 +163,7 @@ impl Screen {
             block: Block::CursorColours,
             word: number - 1,
         };
-        stored(store, register)
+        let colour = stored(store, register);
+        through_gamma(store, self.cursor_skips_gamma(entry), colour)
     }
 }

@@ -90,9 +90,9 @@ module _ (memory : PixelCell → ℕ) where
 
     -- gamma words, of the colour of the layer that shows
     gamma-listed : (layer : Layer) → layerHere memory screen entry x ≡ layer → {cell : PixelCell}
-        → Among cell (reads memory (throughGamma (skipsGamma layer entry) (colourOfLayer memory screen entry x layer))) → ColourListed memory screen entry x cell
+        → Among cell (reads memory (throughGamma (skipsGamma screen entry layer) (colourOfLayer memory screen entry x layer))) → ColourListed memory screen entry x cell
     gamma-listed layer is here =
-        let found = gamma-read (skipsGamma layer entry) (colourOfLayer memory screen entry x layer) here in
+        let found = gamma-read (skipsGamma screen entry layer) (colourOfLayer memory screen entry x layer) here in
         subst (ColourListed memory screen entry x) (sym (found .1 .1)) (record { through = rw is (found .0); hit = rw is refl })
 
     -- ---- its cells
@@ -127,7 +127,7 @@ module _ (memory : PixelCell → ℕ) where
         unfolding plainAt
         plain-read here =
             ⊎-elim normal-read (gamma-listed ofNormal (normal-here transparent clear))
-            (read-value memory (normalAt (screen .depth) entry x) (throughGamma (skipsGamma ofNormal entry)) here)
+            (read-value memory (normalAt (screen .depth) entry x) (throughGamma (entry .bypass)) here)
 
       -- all of an overlay colour
       overlaid-read : overlayHere memory screen entry x ≢ 0 → {cell : PixelCell}
@@ -153,7 +153,7 @@ module _ (memory : PixelCell → ℕ) where
 
     -- all of a cursor colour
     shown-cursor-read : cursorHere memory screen entry x ≢ 0 → {cell : PixelCell}
-        → Among cell (reads memory (cursorShown entry (cursorHere memory screen entry x))) → ColourListed memory screen entry x cell
+        → Among cell (reads memory (cursorShown screen entry (cursorHere memory screen entry x))) → ColourListed memory screen entry x cell
     unfolding cursorShown
     shown-cursor-read shows here =
         ⊎-elim
@@ -168,7 +168,7 @@ module _ (memory : PixelCell → ℕ) where
         ⊎-elim cursor-read (by (eqb (cursorHere memory screen entry x) 0) refl) (read-value memory (cursorAt screen x) _ here)
       where
         by : (clear : Bool) → eqb (cursorHere memory screen entry x) 0 ≡ clear
-            → Among cell (reads memory (cond clear (underCursor screen entry x) (cursorShown entry (cursorHere memory screen entry x))))
+            → Among cell (reads memory (cond clear (underCursor screen entry x) (cursorShown screen entry (cursorHere memory screen entry x))))
             → ColourListed memory screen entry x cell
         by true e there = under-read (eqb-true _ _ e) there
         by false e there = shown-cursor-read (eqb-false _ _ e) there

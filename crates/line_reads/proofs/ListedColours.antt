@@ -39,7 +39,7 @@ module _ (memory : PixelCell → ℕ) where
     under transparent {cell} here = value-read memory (cursorAt screen x) _ (inr (rw (eq-eqb _ _ transparent) here))
 
     -- what is read where it shows
-    shown : cursorHere memory screen entry x ≢ 0 → {cell : PixelCell} → Among cell (reads memory (cursorShown entry (cursorHere memory screen entry x)))
+    shown : cursorHere memory screen entry x ≢ 0 → {cell : PixelCell} → Among cell (reads memory (cursorShown screen entry (cursorHere memory screen entry x)))
         → Among cell (reads memory (colourOfPixel screen entry x))
     unfolding colourOfPixel
     shown shows here = value-read memory (cursorAt screen x) _ (inr (rw (ne-eqb _ _ shows) here))
@@ -106,10 +106,10 @@ module _ (memory : PixelCell → ℕ) where
     module _ {channel : Channel} {number : ℕ} (listed : GammaListed memory screen entry x (channelIn channel (channelsOf (beforeGamma memory screen entry x))) number) where
       -- the gamma word of the colour of the layer that shows
       gamma-of : (layer : Layer) → layerHere memory screen entry x ≡ layer
-          → Among (gamma channel number) (reads memory (throughGamma (skipsGamma layer entry) (colourOfLayer memory screen entry x layer)))
+          → Among (gamma channel number) (reads memory (throughGamma (skipsGamma screen entry layer) (colourOfLayer memory screen entry x layer)))
       gamma-of layer is =
           Memᴰ·cast (ap (gamma channel) (listed .hit ∙ ap (λ (l : Layer). channelIn channel (channelsOf (colourOfLayer memory screen entry x l))) is))
-          (gamma-hit (skipsGamma layer entry) (sym (ap (λ (l : Layer). skipsGamma l entry) is) ∙ listed .through) channel (colourOfLayer memory screen entry x layer))
+          (gamma-hit (skipsGamma screen entry layer) (sym (ap (skipsGamma screen entry) is) ∙ listed .through) channel (colourOfLayer memory screen entry x layer))
 
       -- where the cursor shows
       gamma-by-cursor : cursorHere memory screen entry x ≢ 0 → Among (gamma channel number) (reads memory (colourOfPixel screen entry x))

@@ -44,7 +44,7 @@ module _ (memory : PixelCell → ℕ) (screen : Screen) (entry : WindowEntry) (x
 
   -- whether it skips gamma
   abbrev pub skipsHere : Bool
-  skipsHere = skipsGamma layerHere entry
+  skipsHere = skipsGamma screen entry layerHere
 
   -- the pixel's own cell of the glyph
   pub record GlyphListed (row column : ℕ) : Type 0 where
