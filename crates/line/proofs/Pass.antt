@@ -4,7 +4,6 @@ use mathlib.Core.Path.{_≡_, sym, ap, _∙_}
 use mathlib.Core.Bool.{false}
 use mathlib.Core.List.{List}
 use mathlib.Core.Logic.{⊎-elim}
-use native.Mathlib.Nat.{zero-add}
 use native.Mathlib.Omega.{arith}
 use lib.ListN.{length}
 use Rattle.rules.specs.Rule.{Outcome, ok, refused, run}
@@ -12,7 +11,7 @@ use Rattle.rules.specs.Lists.{values}
 use Rattle.rules.specs.Each.{each}
 use Rattle.rules.specs.Faults.{Numbered}
 use Rattle.rules.proofs.Cases.{le-or-lt}
-use Rattle.rules.proofs.Each.{each-ok, each-stop}
+use Rattle.rules.proofs.Each.{each-ok, each-refuses}
 use Rattle.refusals.specs.Refusal.{numbered}
 use Rattle.refusals.specs.declared.Refusal.{Refusal}
 use Rattle.line_formats.specs.declared.Format.the-variants.{Index8}
@@ -69,8 +68,8 @@ module _ (controls : Controls) (store table : List ℕ) (start : ℕ) where
         → Over store table (λ memory. run memory (each (windowEntryAt controls (length table) start) (controls .width) 0) ≡ refused (numbered refusal))
     pass-refused refusal more told = λ normal overlay.
         let memory = view (lentOf store table normal overlay) in
-        each-stop memory (windowEntryAt controls (length table) start) (λ p. entryOf (run memory (windowEntryAt controls (length table) start p))) x (controls .width) 0 more
-        (λ p low high. has-entry (here .had normal overlay p (omega arith))) (rw zero-add (told normal overlay))
+        each-refuses memory (windowEntryAt controls (length table) start) (controls .width) 0 x (omega arith) (omega arith)
+        (λ p low high. here .had normal overlay p high) (told normal overlay)
 
     -- after the last run
     pub pass-over : controls .width ≤ x → Entries controls store table start

@@ -32,7 +32,7 @@ module _ (setup : Setup) (lent : Lent) where
 
   module _ (passes : verdict (lineFaults setup) ≡ ok tt) where
     -- past them the passes decide
-    by-entries : run (view lent) (lineRule setup) ≡ run (view lent) (entriesOf setup >>= coloursOf setup)
+    pub by-entries : run (view lent) (lineRule setup) ≡ run (view lent) (entriesOf setup >>= coloursOf setup)
     unfolding lineRule
     by-entries = run-ok (view lent) (checked (lineFaults setup)) _ (run-checked (view lent) (lineFaults setup) ∙ passes)
 

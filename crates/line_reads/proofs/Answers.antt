@@ -1,13 +1,14 @@
 -- A line's answer and what it leaves: a refusal exactly for its reasons, the state always as it was, and the output of a refused line. Assumes nothing.
 use Prim.Native.Nat.{ℕ}
-use mathlib.Core.Path.{_≡_, refl, ap, subst}
+use mathlib.Core.Path.{_≡_, refl, ap}
 use mathlib.Core.Bool.{true, false, not}
-use mathlib.Core.List.{List, [], _∷_, _++_}
+use mathlib.Core.List.{List, []}
 use native.Mathlib.Omega.{arith}
 use lib.ListN.{length}
 use Rattle.rules.specs.Rule.{Outcome, ok, refused}
-use Rattle.rules.specs.Faults.{Numbered, Fault, First}
+use Rattle.rules.specs.Faults.{Numbered}
 use Rattle.rules.proofs.Cases.{impossible}
+use Rattle.rules.proofs.Faults.{first-holding}
 use Rattle.refusals.specs.Refusal.{numbered, fault}
 use Rattle.refusals.specs.declared.Refusal.the-variants.{BadState}
 use Rattle.chip.specs.State.{goodState}
@@ -19,24 +20,6 @@ use Rattle.line.specs.Drawn.{setupOf, withoutColours, outputAfter, drawn}
 use Rattle.line.specs.declared.request.Request.{Request}
 use Rattle.line_reads.specs.Reasons.{Reason, at-once, no-frame-entry, no-line-entry, undefined-entry}
 use Rattle.line_reads.proofs.Reasons.{refused-for, for-refused}
-
--- ---- faults that may hold
-
-module _ (Is : Numbered → Type 0) where
-  -- of each of some faults, where it holds its refusal is such
-  abbrev EachHolding : List Fault → Type 0
-  EachHolding [] = Unit {0}
-  EachHolding (fault ∷ faults) = (fault .holds ≡ true → Is (fault .refusal)) × EachHolding faults
-
-  -- then it is so of one that stands behind others
-  holding-at : (passed : List Fault) (found : Fault) (later : List Fault) → EachHolding (passed ++ (found ∷ later)) → found .holds ≡ true → Is (found .refusal)
-  holding-at [] found later all holds = all .0 holds
-  holding-at (fault ∷ passed) found later all holds = holding-at passed found later (all .1) holds
-
-  -- and so of the first that holds
-  first-holding : {faults : List Fault} {refusal : Numbered} → EachHolding faults → First faults refusal → Is refusal
-  first-holding all first =
-      subst Is (first .is) (holding-at (first .passed) (first .found) (first .later) (subst EachHolding (first .order) all) (first .holds))
 
 -- a refusal whose number is not 11
 abbrev pub Not11 : Numbered → Type 0

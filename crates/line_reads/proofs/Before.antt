@@ -6,7 +6,7 @@ use Rattle.rules.specs.Rule.{Rule, Outcome, ok, refused, run, reads, _>>=_}
 use Rattle.rules.specs.Asks.{Asks, NeverRefuses}
 use Rattle.rules.specs.Faults.{Numbered}
 use Rattle.rules.specs.Checked.{checked, verdict}
-use Rattle.rules.proofs.Then.{run-ok, run-refused, reads-ok, reads-refused}
+use Rattle.rules.proofs.Then.{reads-ok, reads-refused}
 use Rattle.rules.proofs.Asks.{asks-reads, asks-then, asks-cond, asks-any, asks-each, asks-within, never-each-of, refused-reads}
 use Rattle.rules.proofs.Checked.{run-checked, checked-reads}
 use Rattle.rules.proofs.Value.{never-within}
@@ -23,6 +23,7 @@ use Rattle.line.specs.Screen.{screenIn}
 use Rattle.line.specs.Cells.{Cell, ofTable, ofColour, Lent, view}
 use Rattle.line.specs.Line.{inTable, startOf, idAt, windowEntryAt, entriesOf, coloursOf, lineRule, lineOf}
 use Rattle.line.proofs.Defined.{asks-nothing}
+use Rattle.line.proofs.Whole.{line-unfit, by-entries}
 use Rattle.line_reads.specs.Listed.{NoColour}
 
 -- ---- the first pass asks for no other cell
@@ -73,14 +74,14 @@ module _ (setup : Setup) where
 
     -- such a line is refused so
     pub refused-unread : {refusal : Numbered} → verdict (lineFaults setup) ≡ refused refusal → lineOf setup lent ≡ refused refusal
-    unfolding lineOf lineRule
-    refused-unread e = run-refused (view lent) (checked (lineFaults setup)) _ (run-checked (view lent) (lineFaults setup) ∙ e)
+    unfolding lineOf
+    refused-unread e = line-unfit setup lent e
 
     module _ (fine : verdict (lineFaults setup) ≡ ok tt) where
       -- any other is its two passes
       pub passes : lineOf setup lent ≡ run (view lent) (entriesOf setup >>= coloursOf setup)
-      unfolding lineOf lineRule
-      passes = run-ok (view lent) (checked (lineFaults setup)) _ (run-checked (view lent) (lineFaults setup) ∙ fine)
+      unfolding lineOf
+      passes = by-entries setup lent fine
 
       -- and reads what they read
       pub reads-passes : reads (view lent) (lineRule setup) ≡ reads (view lent) (entriesOf setup >>= coloursOf setup)

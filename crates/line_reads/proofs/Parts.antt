@@ -10,6 +10,7 @@ use Rattle.rules.specs.Lists.{values}
 use Rattle.rules.specs.Each.{each}
 use Rattle.rules.proofs.Cases.{impossible}
 use Rattle.rules.proofs.Then.{run-then, reads-then}
+use Rattle.rules.proofs.Each.{AllAnswer, answer-none, answer-more}
 
 -- a cell is among some
 abbrev pub Among : {Q : Type 0} → Q → List Q → Type 0
@@ -125,25 +126,13 @@ module _ {Q : Type 0} (at : ℕ → Q) where
 -- ---- a pass
 
 module _ {R Q A : Type 0} (memory : Q → ℕ) (rule : ℕ → Rule R Q A) where
-  -- the positions from `from` on and before `to` all answer
-  abbrev pub AllAnswer : ℕ → ℕ → Type 0
-  AllAnswer from to = (i : ℕ) → from ≤ i → i < to → (answer : A) × (run memory (rule i) ≡ ok answer)
-
   -- a cell that one of `count` positions from `from` on reads, before which all answer
   pub record ReadAt (count from : ℕ) (cell : Q) : Type 0 where
     pub position : ℕ
     pub low : from ≤ position
     pub high : position < from + count
-    pub earlier : AllAnswer from position
+    pub earlier : AllAnswer memory rule from position
     pub here : Among cell (reads memory (rule position))
-
-  -- before the first position there is none
-  pub answer-none : (from : ℕ) → AllAnswer from from
-  answer-none from = λ i low high. absurd (omega arith)
-
-  -- one position that answers, and those behind it
-  pub answer-more : {from to : ℕ} {answer : A} → run memory (rule from) ≡ ok answer → AllAnswer (suc from) to → AllAnswer from to
-  answer-more {from} {to} {answer} e later = λ i low high. ⊎-elim (λ same. (answer, rw same at e)) (λ above. later i above high) (eq-or-lt-of-le low)
 
   -- what a pass reads, one of its positions does
   pub read-each : (count from : ℕ) {cell : Q} → Among cell (reads memory (each rule count from)) → ReadAt count from cell
@@ -151,7 +140,7 @@ module _ {R Q A : Type 0} (memory : Q → ℕ) (rule : ℕ → Rule R Q A) where
   read-each (suc count) from {cell} here = by (λ there. read-each count (suc from) there) (read-either memory (rule from) _ here)
     where
       at-once : Among cell (reads memory (rule from)) → ReadAt (suc count) from cell
-      at-once there = record { position = from; low = omega arith; high = omega arith; earlier = answer-none from; here = there }
+      at-once there = record { position = from; low = omega arith; high = omega arith; earlier = answer-none memory rule from; here = there }
 
       later : {answer : A} → run memory (rule from) ≡ ok answer → ReadAt count (suc from) cell → ReadAt (suc count) from cell
       later found rest =
@@ -159,7 +148,7 @@ module _ {R Q A : Type 0} (memory : Q → ℕ) (rule : ℕ → Rule R Q A) where
             position = rest .position;
             low = omega (arith, rest .low);
             high = omega (arith, rest .high);
-            earlier = answer-more found (rest .earlier);
+            earlier = answer-more memory rule found (rest .earlier);
             here = rest .here;
           }
 
@@ -174,7 +163,7 @@ module _ {R Q A : Type 0} (memory : Q → ℕ) (rule : ℕ → Rule R Q A) where
       by rec (by-second answer found there) = behind rec found (read-either memory (each rule count (suc from)) _ there)
 
   -- what a position reads before which all answer, the pass reads
-  pub each-read : (count from position : ℕ) {cell : Q} → from ≤ position → position < from + count → AllAnswer from position
+  pub each-read : (count from position : ℕ) {cell : Q} → from ≤ position → position < from + count → AllAnswer memory rule from position
       → Among cell (reads memory (rule position)) → Among cell (reads memory (each rule count from))
   each-read zero from position low high earlier here = absurd (omega arith)
   each-read (suc count) from position {cell} low high earlier here =
@@ -186,9 +175,9 @@ module _ {R Q A : Type 0} (memory : Q → ℕ) (rule : ℕ → Rule R Q A) where
       (eq-or-lt-of-le low)
 
   -- where a pass answers, each of its positions does
-  pub each-answers : (count from : ℕ) {answers : List A} → run memory (each rule count from) ≡ ok answers → AllAnswer from (from + count)
+  pub each-answers : (count from : ℕ) {answers : List A} → run memory (each rule count from) ≡ ok answers → AllAnswer memory rule from (from + count)
   each-answers zero from e = λ i low high. absurd (omega arith)
   each-answers (suc count) from e =
       let first = both memory (rule from) _ e in
       let rest = both memory (each rule count (suc from)) _ (first .next) in
-      answer-more (first .found) (λ i low high. each-answers count (suc from) (rest .found) i low (omega arith))
+      answer-more memory rule (first .found) (λ i low high. each-answers count (suc from) (rest .found) i low (omega arith))

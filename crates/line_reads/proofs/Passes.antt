@@ -9,7 +9,8 @@ use lib.ListN.{length, getD}
 use Rattle.rules.specs.Rule.{Rule, done, ok, refused, run, reads, _>>=_}
 use Rattle.rules.specs.Each.{each, eachOf}
 use Rattle.rules.proofs.Cases.{impossible}
-use Rattle.line_reads.proofs.Parts.{Among, both, Either, at-first, at-second, either, Read, by-first, by-second, read-either, either-read, AllAnswer, answer-none, answer-more}
+use Rattle.rules.proofs.Each.{AllAnswer, answer-none, answer-more}
+use Rattle.line_reads.proofs.Parts.{Among, both, Either, at-first, at-second, either, Read, by-first, by-second, read-either, either-read}
 
 -- ---- a pass that refuses
 

@@ -1,22 +1,19 @@
 -- A line is refused exactly for its reasons, and drawn exactly where there is none. Assumes nothing.
-use Prim.Native.Nat.{ℕ, zero, suc, _+_, _≤_, _<_}
+use Prim.Native.Nat.{ℕ}
 use mathlib.Core.Path.{_≡_, refl, sym, ap, _∙_}
 use mathlib.Core.List.{List}
-use mathlib.Core.Logic.{⊎-elim}
 use native.Mathlib.Omega.{arith}
-use native.Mathlib.Nat.{eq-or-lt-of-le}
-use Rattle.rules.specs.Rule.{Rule, Outcome, ok, refused, run}
-use Rattle.rules.specs.Each.{each}
+use Rattle.rules.specs.Rule.{Outcome, ok, refused, run}
 use Rattle.rules.specs.Faults.{Numbered, Clear}
 use Rattle.rules.specs.Checked.{verdict}
 use Rattle.rules.proofs.Cases.{impossible}
 use Rattle.rules.proofs.Then.{run-ok, run-refused}
+use Rattle.rules.proofs.Each.{each-refuses}
 use Rattle.rules.proofs.Asks.{never-refused}
 use Rattle.rules.proofs.Checked.{verdict-clear, verdict-first, first-verdict, clear-verdict}
 use Rattle.refusals.specs.Refusal.{numbered}
 use Rattle.refusals.specs.declared.Refusal.the-variants.{NoFrameEntry, NoLineEntry, UndefinedEntry}
 use Rattle.line_colour.specs.declared.entry.Decoded.{Decoded}
-use Rattle.line_colour.specs.declared.entry.Decoded.the-variants.{Defined, Undefined}
 use Rattle.line_windows.specs.Table.{yend, tableView}
 use Rattle.line_windows.specs.Frame.{frameEntries, lineTableOf}
 use Rattle.line_windows.specs.Ids.{lineEntries, endOf}
@@ -27,37 +24,17 @@ use Rattle.line_setup.specs.declared.setup.Setup.{Setup}
 use Rattle.line.specs.Cells.{Lent, view}
 use Rattle.line.specs.Line.{definedAt, windowEntryAt, entriesOf, coloursOf, lineOf}
 use Rattle.line.proofs.Entries.{run-in-table}
+use Rattle.line.proofs.Defined.{refuses-undefined}
 use Rattle.line_reads.specs.Reasons.{NoFrameServes, NoLineEntryServes, UndefinedAt, ComesTo, Reason, at-once, no-frame-entry, no-line-entry, undefined-entry}
 use Rattle.line_reads.proofs.Before.{never-colours, refused-unread, passes}
-use Rattle.line_reads.proofs.Parts.{both, Either, at-first, at-second, either, AllAnswer}
+use Rattle.line_reads.proofs.Parts.{both, Either, at-first, at-second, either}
 use Rattle.line_reads.proofs.Passes.{StopsAt, each-stops}
 use Rattle.line_reads.proofs.Frames.{starting, identifying, start-on, starts-at, starts-found, NoFrame, no-frame}
 use Rattle.line_reads.proofs.Pixels.{entering, id-run, RefusedPixel, without-id, undefined, pixel-refused}
 use Rattle.line_reads.proofs.OnlyListed.{passing, answered-refused}
 
--- ---- a pass
-
-module _ {R Q A : Type 0} (memory : Q → ℕ) (rule : ℕ → Rule R Q A) where
-  -- a position that refuses, and before which all answer, decides
-  each-refuses : (count from position : ℕ) {refusal : R} → from ≤ position → position < from + count → AllAnswer memory rule from position
-      → run memory (rule position) ≡ refused refusal → run memory (each rule count from) ≡ refused refusal
-  each-refuses zero from position low high earlier stops = absurd (omega arith)
-  each-refuses (suc count) from position low high earlier stops =
-      ⊎-elim (λ same. run-refused memory (rule from) _ (rw same stops))
-      (λ above.
-      run-ok memory (rule from) _ (earlier from (omega arith) above .1)
-      ∙ run-refused memory (each rule count (suc from)) _
-      (each-refuses count (suc from) position above (omega arith) (λ i low′ high′. earlier i (omega arith) high′) stops))
-      (eq-or-lt-of-le low)
-
 module _ (setup : Setup) (lent : Lent) where
   -- ---- a line that is refused has its reason
-
-  -- a window entry that refuses is undefined, and refuses by 9 at the pixel
-  says-undefined : (x : ℕ) (entry : Decoded) {refusal : Numbered} → run (view lent) (definedAt x entry) ≡ refused refusal
-      → (entry ≡ Undefined) × (refusal ≡ numbered (UndefinedEntry x))
-  says-undefined x (Defined entry) e = impossible (cc)
-  says-undefined x Undefined e = (refl, cc)
 
   module _ (clear : Clear (lineFaults setup)) where
     -- without a line table: 7
@@ -77,7 +54,7 @@ module _ (setup : Setup) (lent : Lent) where
           (record { start = start; starts = starts-at setup lent (lacks .on) started; none = none .none })
           (none .named)
       for-pixel x comes stops (undefined id found is place) =
-          let says = says-undefined x _ (sym (run-ok (view lent) (identifying setup lent start x) _ found) ∙ stops) in
+          let says = refuses-undefined (view lent) x _ (sym (run-ok (view lent) (identifying setup lent start x) _ found) ∙ stops) in
           undefined-entry clear x comes
           (record { id = id; has = run-ok (view lent) (starting setup lent) _ started ∙ found; says = says .0 }) (says .1)
 

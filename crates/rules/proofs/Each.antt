@@ -2,8 +2,9 @@
 use Prim.Native.Nat.{ℕ, zero, suc, _+_, _≤_, _<_}
 use mathlib.Core.Path.{_≡_, refl, ap, _∙_}
 use mathlib.Core.List.{List, _∷_}
+use mathlib.Core.Logic.{⊎-elim}
 use native.Mathlib.Omega.{arith}
-use native.Mathlib.Nat.{add-zero, add-suc, suc-add, not-suc-le-zero}
+use native.Mathlib.Nat.{eq-or-lt-of-le}
 use Rattle.rules.specs.Rule.{Rule, done, ok, refused, run, _>>=_}
 use Rattle.rules.specs.Lists.{values}
 use Rattle.rules.specs.Each.{each, eachOf}
@@ -15,16 +16,13 @@ module _ {R Q A : Type 0} (memory : Q → ℕ) (rule : ℕ → Rule R Q A) (valu
   Answers count from = (i : ℕ) → from ≤ i → i < from + count → run memory (rule i) ≡ ok (value i)
 
   module _ (count from : ℕ) (answers : Answers (suc count) from) where
+    -- the first of them answers
     here : run memory (rule from) ≡ ok (value from)
     here = answers from (omega arith) (omega arith)
 
+    -- and so do the others
     later : Answers count (suc from)
     later = λ i low high. answers i (omega arith) (omega arith)
-
-  -- a pass that stops d positions on
-  module _ (d from : ℕ) {refusal : R} (stops : run memory (rule (from + suc d)) ≡ refused refusal) where
-    stops-later : run memory (rule (suc from + d)) ≡ refused refusal
-    stops-later = rw suc-add (rw add-suc at stops)
 
   -- a pass whose positions all answer
   pub each-ok : (count from : ℕ) → Answers count from → run memory (each rule count from) ≡ ok (values value count from)
@@ -33,16 +31,30 @@ module _ {R Q A : Type 0} (memory : Q → ℕ) (rule : ℕ → Rule R Q A) (valu
       run-ok memory (rule from) _ (here count from answers)
       ∙ run-ok memory (each rule count (suc from)) _ (each-ok count (suc from) (later count from answers))
 
-  -- a pass that stops d positions on
-  pub each-stop : (d count from : ℕ) {refusal : R} → d < count → Answers d from
-      → run memory (rule (from + d)) ≡ refused refusal → run memory (each rule count from) ≡ refused refusal
-  each-stop zero zero from h answers stops = absurd (not-suc-le-zero h)
-  each-stop (suc d) zero from h answers stops = absurd (not-suc-le-zero h)
-  each-stop zero (suc count) from h answers stops = run-refused memory (rule from) _ (rw add-zero at stops)
-  each-stop (suc d) (suc count) from h answers stops =
-      run-ok memory (rule from) _ (here d from answers)
+module _ {R Q A : Type 0} (memory : Q → ℕ) (rule : ℕ → Rule R Q A) where
+  -- the positions from `from` on and before `to` all answer
+  abbrev pub AllAnswer : ℕ → ℕ → Type 0
+  AllAnswer from to = (i : ℕ) → from ≤ i → i < to → (answer : A) × (run memory (rule i) ≡ ok answer)
+
+  -- before the first position there is none
+  pub answer-none : (from : ℕ) → AllAnswer from from
+  answer-none from = λ i low high. absurd (omega arith)
+
+  -- one position that answers, and those behind it
+  pub answer-more : {from to : ℕ} {answer : A} → run memory (rule from) ≡ ok answer → AllAnswer (suc from) to → AllAnswer from to
+  answer-more {from} {to} {answer} e later = λ i low high. ⊎-elim (λ same. (answer, rw same at e)) (λ above. later i above high) (eq-or-lt-of-le low)
+
+  -- a position that refuses, and before which all answer, decides the pass
+  pub each-refuses : (count from position : ℕ) {refusal : R} → from ≤ position → position < from + count → AllAnswer from position
+      → run memory (rule position) ≡ refused refusal → run memory (each rule count from) ≡ refused refusal
+  each-refuses zero from position low high earlier stops = absurd (omega arith)
+  each-refuses (suc count) from position low high earlier stops =
+      ⊎-elim (λ same. run-refused memory (rule from) _ (rw same stops))
+      (λ above.
+      run-ok memory (rule from) _ (earlier from (omega arith) above .1)
       ∙ run-refused memory (each rule count (suc from)) _
-      (each-stop d count (suc from) (omega arith) (later d from answers) (stops-later d from stops))
+      (each-refuses count (suc from) position above (omega arith) (λ i low′ high′. earlier i (omega arith) high′) stops))
+      (eq-or-lt-of-le low)
 
 -- a second pass over what a first one found is a pass over the positions, so the laws of `each` are its laws
 pub each-of-values : {R Q A B : Type 0} (rule : B → ℕ → Rule R Q A) (found : ℕ → B) (count from : ℕ)

@@ -1,5 +1,5 @@
 -- A call is refused exactly by the first of its faults that holds, and a refused call leaves all as it was. Assumes nothing.
-use mathlib.Core.Path.{_≡_, refl, ap, sym, _∙_}
+use mathlib.Core.Path.{_≡_, refl, ap, sym, subst, _∙_}
 use mathlib.Core.Bool.{Bool, true, false, true≢false}
 use mathlib.Core.List.{List, [], _∷_, _++_}
 use Rattle.rules.specs.Rule.{Outcome, ok, refused}
@@ -76,3 +76,21 @@ module _ {Memory Answer : Type 0} (before : Memory) (done : Memory × Answer) wh
   -- a refused call leaves all as it was
   pub refused-leaves : (faults : List Fault) (refusal : Numbered) → unless faults before done .1 ≡ refused refusal → unless faults before done .0 ≡ before
   refused-leaves faults refusal e = ap (λ (all : Memory × Outcome Numbered Answer). all .0) (first-holds faults refusal (refused-first faults refusal e))
+
+-- ---- what the refusals of some faults have in common
+
+module _ (Is : Numbered → Type 0) where
+  -- of each of some faults, where it holds its refusal is such
+  abbrev pub EachHolding : List Fault → Type 0
+  EachHolding [] = Unit {0}
+  EachHolding (fault ∷ faults) = (fault .holds ≡ true → Is (fault .refusal)) × EachHolding faults
+
+  -- then it is so of one that stands behind others
+  holding-at : (passed : List Fault) (found : Fault) (later : List Fault) → EachHolding (passed ++ (found ∷ later)) → found .holds ≡ true → Is (found .refusal)
+  holding-at [] found later all holds = all .0 holds
+  holding-at (fault ∷ passed) found later all holds = holding-at passed found later (all .1) holds
+
+  -- and so of the first that holds
+  pub first-holding : {faults : List Fault} {refusal : Numbered} → EachHolding faults → First faults refusal → Is refusal
+  first-holding all first =
+      subst Is (first .is) (holding-at (first .passed) (first .found) (first .later) (subst EachHolding (first .order) all) (first .holds))
