@@ -10,7 +10,8 @@ use Rattle.rules.specs.Each.{each}
 use Rattle.rules.specs.Faults.{Numbered}
 use Rattle.rules.specs.Checked.{checked, verdict}
 use Rattle.rules.proofs.Then.{run-ok, run-refused}
-use Rattle.rules.proofs.Each.{each-ok, each-of-values}
+use Rattle.rules.proofs.Each.{each-ok}
+use Rattle.rules.proofs.EachOf.{each-of-values}
 use Rattle.rules.proofs.Checked.{run-checked}
 use Rattle.rules.proofs.Value.{run-within-value}
 use Rattle.line_colour.specs.declared.entry.WindowEntry.{WindowEntry}

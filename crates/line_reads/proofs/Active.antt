@@ -8,6 +8,8 @@ use Rattle.rules.specs.Rule.{Outcome, ok, refused, run}
 use Rattle.rules.specs.Faults.{Numbered, placeIn}
 use Rattle.rules.specs.Checked.{verdict}
 use Rattle.rules.proofs.Cases.{impossible}
+use Rattle.rules.proofs.Parts.{Either, at-first, at-second, either}
+use Rattle.rules.proofs.Each.{StopsAt, each-stops}
 use Rattle.line_colour.specs.declared.entry.WindowEntry.{WindowEntry}
 use Rattle.line_windows.specs.Table.{TableCell, yend, lineTable, xend, windowId}
 use Rattle.line_pixels.specs.Cells.{PixelCell}
@@ -19,8 +21,6 @@ use Rattle.line_reads.specs.Reach.{Search, toTheOneFound, throughAll, Re
 use Rattle.line_reads.specs.TableList.{FrameListed, WindowListed}
 use Rattle.line_reads.specs.Listed.{PixelListed, ListedTo, RefusedListed, of-7, of-8, of-9, ListedFor, Listed}
 use Rattle.line_reads.proofs.Before.{refused-unread}
-use Rattle.line_reads.proofs.Parts.{Either, at-first, at-second, either}
-use Rattle.line_reads.proofs.Passes.{StopsAt, each-stops}
 use Rattle.line_reads.proofs.Frames.{starting, no-frame, frame-number}
 use Rattle.line_reads.proofs.Pixels.{entering, RefusedPixel, without-id, undefined, pixel-refused}
 use Rattle.line_reads.proofs.Early.{NothingListed, early}

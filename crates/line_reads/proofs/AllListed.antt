@@ -9,7 +9,11 @@ use Rattle.rules.specs.Faults.{Numbered}
 use Rattle.rules.specs.Checked.{verdict}
 use Rattle.rules.proofs.Cases.{impossible}
 use Rattle.rules.proofs.Then.{run-ok}
-use Rattle.rules.proofs.Each.{AllAnswer}
+use Rattle.rules.proofs.Lists.{Among}
+use Rattle.rules.proofs.Parts.{both, Either, at-first, at-second, either, by-first, by-second, either-read, within-read}
+use Rattle.rules.proofs.Each.{AllAnswer, each-answers, StopsAt, each-stops}
+use Rattle.rules.proofs.EachReads.{each-read}
+use Rattle.rules.proofs.EachOf.{each-of-read}
 use Rattle.rules.proofs.Value.{run-within-value}
 use Rattle.line_colour.specs.declared.entry.WindowEntry.{WindowEntry}
 use Rattle.line_windows.specs.Table.{yend, lineTable, xend, windowId}
@@ -24,8 +28,6 @@ use Rattle.line.specs.Line.{entriesOf, inColours, coloursOf, lineRule, lineOf}
 use Rattle.line_reads.specs.Reach.{toTheOneFound, throughAll, Reach, noFrameEntry, noLineEntry, undefinedEntry}
 use Rattle.line_reads.specs.Listed.{PixelListed, ListedTo, RefusedListed, of-7, of-8, of-9, ListedFor, Listed}
 use Rattle.line_reads.proofs.Before.{refused-unread, reads-passes}
-use Rattle.line_reads.proofs.Parts.{Among, both, Either, at-first, at-second, either, by-first, by-second, either-read, within-read, each-read, each-answers}
-use Rattle.line_reads.proofs.Passes.{StopsAt, each-stops, each-of-read}
 use Rattle.line_reads.proofs.ListedColours.{colour-listed}
 use Rattle.line_reads.proofs.Frames.{starting, line-table-listed, no-frame, NoFrame, frame-number, no-frame-listed}
 use Rattle.line_reads.proofs.Pixels.{entering, NoId, RefusedPixel, without-id, undefined, pixel-refused, read-no-id}

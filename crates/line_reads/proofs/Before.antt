@@ -7,7 +7,7 @@ use Rattle.rules.specs.Asks.{Asks, NeverRefuses}
 use Rattle.rules.specs.Faults.{Numbered}
 use Rattle.rules.specs.Checked.{checked, verdict}
 use Rattle.rules.proofs.Then.{reads-ok, reads-refused}
-use Rattle.rules.proofs.Asks.{asks-reads, asks-then, asks-cond, asks-any, asks-each, asks-within, never-each-of, refused-reads}
+use Rattle.rules.proofs.Asks.{asks-reads, asks-then, refused-reads, asks-cond, asks-any, asks-each, never-each-of, asks-within}
 use Rattle.rules.proofs.Checked.{run-checked, checked-reads}
 use Rattle.rules.proofs.Value.{never-within}
 use Rattle.line_colour.specs.Entry.{decoded}

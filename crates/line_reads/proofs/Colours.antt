@@ -6,8 +6,9 @@ use mathlib.Core.List.{List·Memᴰ·not-nil, List·Memᴰ·cases-cons, List·Me
 use mathlib.Core.Logic.{_⊎_, inl, inr, _≢_, ⊎-elim}
 use borrow.Author.Tests.{eqb-true, eqb-false, eq-eqb, ne-eqb}
 use lib.Dec.{eqb}
-use Rattle.rules.specs.Rule.{Rule, done, get, reads, value, _>>=_}
-use Rattle.rules.proofs.Value.{run-value}
+use Rattle.rules.specs.Rule.{done, get, reads}
+use Rattle.rules.proofs.Lists.{Among}
+use Rattle.rules.proofs.Value.{read-value}
 use Rattle.words.specs.Channels.{channelsOf}
 use Rattle.line_colour.specs.Shown.{shownOf}
 use Rattle.line_colour.specs.declared.entry.WindowEntry.{WindowEntry}
@@ -18,24 +19,6 @@ use Rattle.line_pixels.specs.Cursor.{glyphPlace, inGlyph, onCrossHair, cursorAt
 use Rattle.line_pixels.specs.Colour.{Layer, ofCursor, ofOverlay, ofNormal, skipsGamma, throughGamma, shownColour, normalAt, plainAt, overlaid, overlayCounts, overlayAt, underCursor, cursorShown, colourOfPixel}
 use Rattle.line_pixels.specs.declared.Screen.{Screen}
 use Rattle.line_reads.specs.ColourList.{cursorHere, overlayHere, usedCell, layerHere, colourOfLayer, ColourListed}
-use Rattle.line_reads.proofs.Parts.{Among, Read, by-first, by-second, read-either, either-read}
-
--- ---- rules that refuse nothing
-
-module _ {Q A B : Type 0} (memory : Q → ℕ) (rule : Rule ⊥ Q A) (after : A → Rule ⊥ Q B) {cell : Q} where
-  -- what one rule and then another read, the first reads, or the second by the value of the first
-  pub read-value : Among cell (reads memory (rule >>= after)) → Among cell (reads memory rule) ⊎ Among cell (reads memory (after (value memory rule)))
-  read-value here = by (read-either memory rule after here)
-    where
-      by : Read memory rule after cell → Among cell (reads memory rule) ⊎ Among cell (reads memory (after (value memory rule)))
-      by (by-first there) = inl there
-      by (by-second first found there) =
-          let is : first ≡ value memory rule = cc (found, run-value memory rule) in inr (subst (λ (a : A). Among cell (reads memory (after a))) is there)
-
-  -- and the other way round
-  pub value-read : Among cell (reads memory rule) ⊎ Among cell (reads memory (after (value memory rule))) → Among cell (reads memory (rule >>= after))
-  value-read (inl there) = either-read memory rule after (by-first there)
-  value-read (inr there) = either-read memory rule after (by-second (value memory rule) (run-value memory rule) there)
 
 module _ (memory : PixelCell → ℕ) where
   -- a colour that goes through gamma reads one channel of a gamma word for each of its channels

@@ -6,6 +6,8 @@ use mathlib.Core.List.{List·Memᴰ·not-nil}
 use Rattle.rules.specs.Rule.{Rule, done, ok, refused, run, reads}
 use Rattle.rules.specs.Faults.{Numbered}
 use Rattle.rules.proofs.Cases.{impossible}
+use Rattle.rules.proofs.Lists.{Among}
+use Rattle.rules.proofs.Parts.{Becomes, read-within, within-read}
 use Rattle.refusals.specs.Refusal.{numbered}
 use Rattle.refusals.specs.declared.Refusal.the-variants.{NoFrameEntry}
 use Rattle.line_windows.specs.Table.{TableCell, yend, lineTable, tableView}
@@ -18,7 +20,6 @@ use Rattle.line.proofs.Entries.{run-in-table}
 use Rattle.line_reads.specs.Reach.{Reach, toTheOneFound, noFrameEntry}
 use Rattle.line_reads.specs.TableList.{FrameEntry, UpToFrameEntry, StartsAt}
 use Rattle.line_reads.specs.Listed.{ListedTo}
-use Rattle.line_reads.proofs.Parts.{Among, Becomes, read-within, within-read}
 use Rattle.line_reads.proofs.LookUps.{LookedUpCell, an-end, its-cell, look-up-read, read-end, read-cell, refusal-named, refused-look-up-read, read-any-end}
 
 module _ (setup : Setup) (lent : Lent) where

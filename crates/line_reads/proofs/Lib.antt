@@ -1,7 +1,5 @@
 pub mod Demand
 pub mod Before
-pub mod Parts
-pub mod Passes
 pub mod Colours
 pub mod ListedColours
 pub mod LookUps

@@ -8,6 +8,8 @@ use borrow.Author.Tests.{eqb-true, eqb-false, eq-eqb, ne-eqb}
 use lib.Dec.{eqb}
 use Rattle.rules.specs.Rule.{reads}
 use Rattle.rules.proofs.Cases.{impossible}
+use Rattle.rules.proofs.Lists.{Among}
+use Rattle.rules.proofs.Value.{value-read}
 use Rattle.words.specs.Channels.{channelsOf}
 use Rattle.line_colour.specs.Shown.{shownOf}
 use Rattle.line_colour.specs.declared.entry.WindowEntry.{WindowEntry}
@@ -18,8 +20,7 @@ use Rattle.line_pixels.specs.Cursor.{cursorAt}
 use Rattle.line_pixels.specs.Colour.{Layer, ofCursor, ofOverlay, ofNormal, skipsGamma, throughGamma, shownColour, normalAt, plainAt, overlayColours, overlaid, overlayAt, underCursor, cursorShown, colourOfPixel}
 use Rattle.line_pixels.specs.declared.Screen.{Screen}
 use Rattle.line_reads.specs.ColourList.{cursorHere, overlayHere, usedCell, layerHere, colourOfLayer, beforeGamma, GlyphListed, CursorColourListed, OverlayListed, SampleListed, MapListed, GammaListed, ColourListed}
-use Rattle.line_reads.proofs.Parts.{Among}
-use Rattle.line_reads.proofs.Colours.{value-read, cursor-here, overlay-here, normal-here}
+use Rattle.line_reads.proofs.Colours.{cursor-here, overlay-here, normal-here}
 
 module _ (memory : PixelCell → ℕ) where
   -- each channel's byte of the gamma word that it hits

@@ -6,9 +6,10 @@ use native.Mathlib.Omega.{arith}
 use Rattle.rules.specs.Rule.{Rule, ok, refused, run, reads, get, _>>=_}
 use Rattle.rules.specs.Lists.{values}
 use Rattle.rules.proofs.Cases.{impossible}
+use Rattle.rules.proofs.Lists.{Among, value-among, among-values}
+use Rattle.rules.proofs.Parts.{both, Either, at-first, at-second, either, Read, by-first, by-second, read-either, either-read}
 use Rattle.line_windows.specs.Search.{servingEntry}
 use Rattle.line_windows.proofs.Whole.{whole-reads, none-named, none-reads}
-use Rattle.line_reads.proofs.Parts.{Among, both, Either, at-first, at-second, either, Read, by-first, by-second, read-either, either-read, value-among, among-values}
 
 module _ {R Q : Type 0} (memory : Q → ℕ) (missing : R) (end cell-of : ℕ → Q) (count position : ℕ) where
   -- the entry whose end is the first of at least `position`

@@ -5,6 +5,7 @@ use mathlib.Core.Bool.{Bool, true, false}
 use native.Mathlib.Omega.{arith}
 use Rattle.rules.specs.Rule.{ok, run, reads}
 use Rattle.rules.proofs.Then.{run-ok}
+use Rattle.rules.proofs.Lists.{Among}
 use Rattle.refusals.specs.Refusal.{numbered}
 use Rattle.refusals.specs.declared.Refusal.the-variants.{NoLineEntry}
 use Rattle.line_windows.specs.Table.{yend, lineTable, xend, windowId, tableView}
@@ -16,7 +17,6 @@ use Rattle.line.specs.Cells.{Cell, ofTable, windowEntry, ofColour, Lent, view}
 use Rattle.line_reads.specs.Reach.{Search, toTheOneFound, throughAll, Reach, noLineEntry}
 use Rattle.line_reads.specs.TableList.{StartsAt, LineEntry, HasId, Searched, IdListed, WindowListed}
 use Rattle.line_reads.specs.Listed.{PixelListed, ColoursListed, ListedTo}
-use Rattle.line_reads.proofs.Parts.{Among}
 use Rattle.line_reads.proofs.Frames.{starting, identifying, starts-at, starts-found, frame-listed, line-table-listed}
 use Rattle.line_reads.proofs.Pixels.{entering, OfPixel, pixel-end, pixel-id, pixel-window, entry-of, read-pixel}
 

@@ -5,13 +5,18 @@ use mathlib.Core.List.{List, List·Memᴰ, List·Memᴰ·not-nil}
 use mathlib.Core.Logic.{_⊎_, inl, inr, ⊎-elim}
 use native.Mathlib.Omega.{arith}
 use native.Mathlib.Nat.{eq-or-lt-of-le}
-use Rattle.rules.specs.Rule.{Rule, done, stop, ask, Outcome, ok, refused, run, reads}
+use Rattle.rules.specs.Rule.{Rule, Outcome, ok, refused, run, reads}
 use Rattle.rules.specs.Each.{each}
-use Rattle.rules.specs.Asks.{NeverRefuses}
 use Rattle.rules.specs.Faults.{Numbered}
 use Rattle.rules.specs.Checked.{verdict}
 use Rattle.rules.proofs.Cases.{impossible, le-or-lt}
 use Rattle.rules.proofs.Then.{run-ok, run-refused}
+use Rattle.rules.proofs.Lists.{Among}
+use Rattle.rules.proofs.Parts.{both, Either, at-first, at-second, either, Read, by-first, by-second, read-either, read-within}
+use Rattle.rules.proofs.Each.{each-answers, StopsAt, each-stops}
+use Rattle.rules.proofs.EachReads.{ReadAt, read-each}
+use Rattle.rules.proofs.EachOf.{read-each-of}
+use Rattle.rules.proofs.Asks.{never-answers}
 use Rattle.line_colour.specs.declared.entry.WindowEntry.{WindowEntry}
 use Rattle.line_pixels.specs.Cells.{PixelCell}
 use Rattle.line_pixels.specs.Colour.{colourOfPixel}
@@ -23,8 +28,6 @@ use Rattle.line.specs.Line.{entriesOf, inColours, coloursOf, lineRule, lineOf}
 use Rattle.line_reads.specs.Reach.{Reach, drawnWhole, noLineEntry, undefinedEntry}
 use Rattle.line_reads.specs.Listed.{ListedTo, RefusedListed, of-7, of-8, of-9, ListedFor, Listed}
 use Rattle.line_reads.proofs.Before.{never-colours, unread, passes, reads-passes}
-use Rattle.line_reads.proofs.Parts.{Among, both, Either, at-first, at-second, either, Read, by-first, by-second, read-either, read-within, ReadAt, read-each, each-answers}
-use Rattle.line_reads.proofs.Passes.{StopsAt, each-stops, read-each-of}
 use Rattle.line_reads.proofs.Colours.{colour-read}
 use Rattle.line_reads.proofs.Frames.{starting, identifying, start-read, NoFrame, no-frame, frame-number, no-frame-read}
 use Rattle.line_reads.proofs.Pixels.{entering, pixel-read, entry-id, NoId, RefusedPixel, without-id, undefined, pixel-refused, no-id-read}
@@ -154,17 +157,11 @@ module _ (setup : Setup) (lent : Lent) where
 
   -- ---- the line
 
-  -- a rule that never refuses answers
-  always : {R Q A : Type 0} (memory : Q → ℕ) (rule : Rule R Q A) → NeverRefuses rule → (answer : A) × (run memory rule ≡ ok answer)
-  always memory (done answer) never = (answer, refl)
-  always memory (stop refusal) never = absurd never
-  always memory (ask cell next) never = always memory (next (memory cell)) (never (memory cell))
-
   -- a line whose first pass answers is drawn
   pub answered-drawn : verdict (lineFaults setup) ≡ ok tt → {entries : List WindowEntry} → run (view lent) (entriesOf setup) ≡ ok entries
       → (colours : List ℕ) × (lineOf setup lent ≡ ok colours)
   answered-drawn fine {entries} e =
-      let drawn = always (view lent) (coloursOf setup entries) (never-colours setup entries) in
+      let drawn = never-answers (view lent) (coloursOf setup entries) (never-colours setup entries) in
       (drawn .0, passes setup lent fine ∙ run-ok (view lent) (entriesOf setup) (coloursOf setup) e ∙ drawn .1)
 
   -- a line whose first pass is refused is refused

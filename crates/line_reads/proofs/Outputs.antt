@@ -9,6 +9,9 @@ use Rattle.rules.specs.Rule.{Outcome, ok, refused, run, _>>=_}
 use Rattle.rules.specs.Faults.{Numbered}
 use Rattle.rules.specs.Checked.{verdict}
 use Rattle.rules.proofs.Cases.{impossible}
+use Rattle.rules.proofs.Parts.{both}
+use Rattle.rules.proofs.Each.{each-length}
+use Rattle.rules.proofs.EachOf.{each-of-length}
 use Rattle.line_setup.specs.Controls.{controlsOf}
 use Rattle.line_setup.specs.Faults.{lineFaults}
 use Rattle.line_setup.specs.declared.setup.Setup.{Setup}
@@ -20,8 +23,6 @@ use Rattle.line.specs.declared.request.Request.{Request}
 use Rattle.line_reads.specs.Calls.{SameLengths, AgreeOnReads}
 use Rattle.line_reads.proofs.Demand.{outcome-rests}
 use Rattle.line_reads.proofs.Before.{refused-unread, passes}
-use Rattle.line_reads.proofs.Parts.{both}
-use Rattle.line_reads.proofs.Passes.{each-length, each-of-length}
 use Rattle.line_reads.proofs.Frames.{starting}
 use Rattle.line_reads.proofs.Pixels.{entering}
 use Rattle.line_reads.proofs.OnlyListed.{passing}

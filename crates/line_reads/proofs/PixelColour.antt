@@ -9,6 +9,8 @@ use Rattle.rules.specs.Faults.{Numbered}
 use Rattle.rules.specs.Checked.{verdict}
 use Rattle.rules.proofs.Cases.{impossible}
 use Rattle.rules.proofs.Then.{run-ok}
+use Rattle.rules.proofs.Parts.{both}
+use Rattle.rules.proofs.EachOf.{answer-each-of}
 use Rattle.rules.proofs.Value.{run-within-value}
 use Rattle.line_colour.specs.declared.entry.WindowEntry.{WindowEntry}
 use Rattle.line_pixels.specs.Colour.{colourOfPixel}
@@ -22,8 +24,6 @@ use Rattle.line.specs.Drawn.{setupOf, drawn}
 use Rattle.line.specs.declared.request.Request.{Request}
 use Rattle.line_reads.specs.PixelColour.{HasColour}
 use Rattle.line_reads.proofs.Before.{refused-unread, passes}
-use Rattle.line_reads.proofs.Parts.{both}
-use Rattle.line_reads.proofs.Passes.{answer-each-of}
 use Rattle.line_reads.proofs.Frames.{starting}
 use Rattle.line_reads.proofs.Pixels.{entering}
 use Rattle.line_reads.proofs.OnlyListed.{passing}

@@ -7,6 +7,8 @@ use mathlib.Core.Logic.{⊎-elim}
 use Rattle.rules.specs.Rule.{Rule, ok, refused, run, reads, get, _>>=_}
 use Rattle.rules.specs.Faults.{Numbered, placeIn}
 use Rattle.rules.proofs.Cases.{impossible}
+use Rattle.rules.proofs.Lists.{Among}
+use Rattle.rules.proofs.Parts.{both, Either, at-first, at-second, either, Read, by-first, by-second, read-either, either-read, Becomes, read-within, within-read}
 use Rattle.rules.proofs.Asks.{asks-reads}
 use Rattle.refusals.specs.Refusal.{numbered}
 use Rattle.refusals.specs.declared.Refusal.the-variants.{NoLineEntry, UndefinedEntry}
@@ -21,7 +23,6 @@ use Rattle.line.specs.Line.{definedAt, windowEntryAt}
 use Rattle.line.proofs.Entries.{run-in-table}
 use Rattle.line.proofs.Defined.{asks-nothing, refuses-undefined}
 use Rattle.line_reads.specs.TableList.{LineEntry}
-use Rattle.line_reads.proofs.Parts.{Among, Becomes, both, Either, at-first, at-second, either, Read, by-first, by-second, read-either, either-read, read-within, within-read}
 use Rattle.line_reads.proofs.LookUps.{LookedUpCell, an-end, its-cell, look-up-read, read-end, read-cell, refusal-named, refused-look-up-read, read-any-end}
 use Rattle.line_reads.proofs.Frames.{identifying, id-on, id-off}
 

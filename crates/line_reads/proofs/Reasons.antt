@@ -8,7 +8,8 @@ use Rattle.rules.specs.Faults.{Numbered, Clear}
 use Rattle.rules.specs.Checked.{verdict}
 use Rattle.rules.proofs.Cases.{impossible}
 use Rattle.rules.proofs.Then.{run-ok, run-refused}
-use Rattle.rules.proofs.Each.{each-refuses}
+use Rattle.rules.proofs.Parts.{both, Either, at-first, at-second, either}
+use Rattle.rules.proofs.Each.{each-refuses, StopsAt, each-stops}
 use Rattle.rules.proofs.Asks.{never-refused}
 use Rattle.rules.proofs.Checked.{verdict-clear, verdict-first, first-verdict, clear-verdict}
 use Rattle.refusals.specs.Refusal.{numbered}
@@ -27,8 +28,6 @@ use Rattle.line.proofs.Entries.{run-in-table}
 use Rattle.line.proofs.Defined.{refuses-undefined}
 use Rattle.line_reads.specs.Reasons.{NoFrameServes, NoLineEntryServes, UndefinedAt, ComesTo, Reason, at-once, no-frame-entry, no-line-entry, undefined-entry}
 use Rattle.line_reads.proofs.Before.{never-colours, refused-unread, passes}
-use Rattle.line_reads.proofs.Parts.{both, Either, at-first, at-second, either}
-use Rattle.line_reads.proofs.Passes.{StopsAt, each-stops}
 use Rattle.line_reads.proofs.Frames.{starting, identifying, start-on, starts-at, starts-found, NoFrame, no-frame}
 use Rattle.line_reads.proofs.Pixels.{entering, id-run, RefusedPixel, without-id, undefined, pixel-refused}
 use Rattle.line_reads.proofs.OnlyListed.{passing, answered-refused}

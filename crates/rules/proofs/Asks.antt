@@ -4,7 +4,7 @@ use mathlib.Core.Path.{_≡_, refl, sym, ap, subst}
 use mathlib.Core.Bool.{Bool, true, false, cond}
 use mathlib.Core.List.{List, [], _∷_, List·Memᴰ, List·Memᴰ·cases-cons, List·Memᴰ·not-nil}
 use mathlib.Core.Logic.{⊎-elim}
-use Rattle.rules.specs.Rule.{Rule, done, stop, ask, refused, run, reads, _>>=_, within}
+use Rattle.rules.specs.Rule.{Rule, done, stop, ask, ok, refused, run, reads, _>>=_, within}
 use Rattle.rules.specs.Each.{each, eachOf}
 use Rattle.rules.specs.Asks.{Asks, NeverRefuses}
 use Rattle.rules.proofs.Cases.{impossible}
@@ -26,6 +26,12 @@ module _ {R Q A : Type 0} (memory : Q → ℕ) where
   never-refused (done answer) never e = impossible (cc)
   never-refused (stop refusal) never e = never
   never-refused (ask cell on) never e = never-refused (on (memory cell)) (never (memory cell)) e
+
+  -- but an answer
+  pub never-answers : (rule : Rule R Q A) → NeverRefuses rule → (answer : A) × (run memory rule ≡ ok answer)
+  never-answers (done answer) never = (answer, refl)
+  never-answers (stop refusal) never = absurd never
+  never-answers (ask cell on) never = never-answers (on (memory cell)) (never (memory cell))
 
 module _ {R Q A B : Type 0} where
   -- one rule and then another ask for what each may ask for

@@ -1,10 +1,13 @@
 pub mod Cases
 pub mod Rests
 pub mod Then
+pub mod Lists
+pub mod Parts
 pub mod First
 pub mod Last
-pub mod Lists
 pub mod Each
+pub mod EachReads
+pub mod EachOf
 pub mod Fill
 pub mod Asks
 pub mod Faults

@@ -1,8 +1,10 @@
--- The values at successive positions: how many, and one stretch behind another. Assumes nothing.
-use Prim.Native.Nat.{ℕ, zero, suc, _+_}
-use mathlib.Core.Path.{_≡_, refl, ap, _∙_}
-use mathlib.Core.List.{List, _∷_, _++_}
-use native.Mathlib.Nat.{add-zero, zero-add, add-suc, suc-add}
+-- The values at successive positions: how many, one stretch behind another, and which are among them. Assumes nothing.
+use Prim.Native.Nat.{ℕ, zero, suc, _+_, _≤_, _<_}
+use mathlib.Core.Path.{_≡_, refl, sym, ap, _∙_}
+use mathlib.Core.List.{List, _∷_, _++_, List·Memᴰ, List·Memᴰ·head, List·Memᴰ·tail, List·Memᴰ·cases-cons, List·Memᴰ·not-nil}
+use mathlib.Core.Logic.{⊎-elim}
+use native.Mathlib.Omega.{arith}
+use native.Mathlib.Nat.{add-zero, zero-add, add-suc, suc-add, eq-or-lt-of-le}
 use lib.ListN.{length}
 use Rattle.rules.specs.Lists.{values}
 
@@ -17,3 +19,34 @@ module _ {A : Type 0} (at : ℕ → A) where
   values-add zero n from = rw (zero-add, add-zero)
   values-add (suc m) n from =
       rw suc-add (ap (λ (rest : List A). at from ∷ rest) (values-add m n (suc from) ∙ rw (suc-add, add-suc)))
+
+-- ---- which are among them
+
+-- one of some cells, or of any other things
+abbrev pub Among : {A : Type 0} → A → List A → Type 0
+Among one all = List·Memᴰ one all
+
+module _ {A : Type 0} (at : ℕ → A) where
+  -- it is the value at one of `count` positions from `from` on
+  pub record ValueAt (count from : ℕ) (one : A) : Type 0 where
+    pub position : ℕ
+    pub low : from ≤ position
+    pub high : position < from + count
+    pub is : one ≡ at position
+
+  -- what is among the values is one of them
+  pub value-among : (count from : ℕ) {one : A} → Among one (values at count from) → ValueAt count from one
+  value-among zero from here = absurd (List·Memᴰ·not-nil here)
+  value-among (suc count) from {one} here =
+      ⊎-elim (λ same. record { position = from; low = omega arith; high = omega arith; is = same })
+      (λ later. more (value-among count (suc from) later)) (List·Memᴰ·cases-cons here)
+    where
+      more : ValueAt count (suc from) one → ValueAt (suc count) from one
+      more found = record { position = found .position; low = omega (arith, found .low); high = omega (arith, found .high); is = found .is }
+
+  -- and each value is among them
+  pub among-values : (count from position : ℕ) → from ≤ position → position < from + count → Among (at position) (values at count from)
+  among-values zero from position low high = absurd (omega arith)
+  among-values (suc count) from position low high =
+      ⊎-elim (λ same. List·Memᴰ·head (ap at (sym same))) (λ above. List·Memᴰ·tail (among-values count (suc from) position above (omega arith)))
+      (eq-or-lt-of-le low)

@@ -1,8 +1,11 @@
--- Rules without refusals: their values, put together as the rules are. Assumes nothing.
+-- Rules without refusals: their values, put together as the rules are, and which cells they read. Assumes nothing.
 use Prim.Native.Nat.{ℕ}
-use mathlib.Core.Path.{_≡_, refl}
-use Rattle.rules.specs.Rule.{Rule, done, stop, ask, ok, run, _>>=_, within, value}
+use mathlib.Core.Path.{_≡_, refl, subst}
+use mathlib.Core.Logic.{_⊎_, inl, inr}
+use Rattle.rules.specs.Rule.{Rule, done, stop, ask, ok, run, reads, _>>=_, within, value}
 use Rattle.rules.specs.Asks.{NeverRefuses}
+use Rattle.rules.proofs.Lists.{Among}
+use Rattle.rules.proofs.Parts.{Read, by-first, by-second, read-either, either-read}
 
 module _ {Q A B : Type 0} (memory : Q → ℕ) where
   -- the value of one rule and then another
@@ -30,3 +33,18 @@ module _ {S P Q A : Type 0} (name : ⊥ → S) (into : P → Q) where
   never-within (done answer) = tt
   never-within (stop refusal) = absurd refusal
   never-within (ask cell next) = λ held. never-within (next held)
+
+module _ {Q A B : Type 0} (memory : Q → ℕ) (rule : Rule ⊥ Q A) (after : A → Rule ⊥ Q B) {cell : Q} where
+  -- what one rule and then another read, the first reads, or the second by the value of the first
+  pub read-value : Among cell (reads memory (rule >>= after)) → Among cell (reads memory rule) ⊎ Among cell (reads memory (after (value memory rule)))
+  read-value here = by (read-either memory rule after here)
+    where
+      by : Read memory rule after cell → Among cell (reads memory rule) ⊎ Among cell (reads memory (after (value memory rule)))
+      by (by-first there) = inl there
+      by (by-second first found there) =
+          let is : first ≡ value memory rule = cc (found, run-value memory rule) in inr (subst (λ (a : A). Among cell (reads memory (after a))) is there)
+
+  -- and the other way round
+  pub value-read : Among cell (reads memory rule) ⊎ Among cell (reads memory (after (value memory rule))) → Among cell (reads memory (rule >>= after))
+  value-read (inl there) = either-read memory rule after (by-first there)
+  value-read (inr there) = either-read memory rule after (by-second (value memory rule) (run-value memory rule) there)

@@ -1,4 +1,4 @@
--- Where a pass stops, how many it answers, and what a second pass over its answers answers and reads. Assumes nothing.
+-- A second pass, over what a first one found: what it answers and which cells it reads. Assumes nothing.
 use Prim.Native.Nat.{ℕ, zero, suc, _+_, _≤_, _<_}
 use mathlib.Core.Path.{_≡_, refl, sym, ap, subst}
 use mathlib.Core.List.{List, [], _∷_, List·Memᴰ·not-nil}
@@ -6,60 +6,33 @@ use mathlib.Core.Logic.{⊎-elim}
 use native.Mathlib.Omega.{arith}
 use native.Mathlib.Nat.{add-zero, eq-or-lt-of-le}
 use lib.ListN.{length, getD}
-use Rattle.rules.specs.Rule.{Rule, done, ok, refused, run, reads, _>>=_}
+use Rattle.rules.specs.Rule.{Rule, done, ok, run, reads, _>>=_}
+use Rattle.rules.specs.Lists.{values}
 use Rattle.rules.specs.Each.{each, eachOf}
-use Rattle.rules.proofs.Cases.{impossible}
-use Rattle.rules.proofs.Each.{AllAnswer, answer-none, answer-more}
-use Rattle.line_reads.proofs.Parts.{Among, both, Either, at-first, at-second, either, Read, by-first, by-second, read-either, either-read}
+use Rattle.rules.proofs.Lists.{Among}
+use Rattle.rules.proofs.Parts.{both, Read, by-first, by-second, read-either, either-read}
 
--- ---- a pass that refuses
+-- a second pass over what a first one found is a pass over the positions, so the laws of `each` are its laws
+pub each-of-values : {R Q A B : Type 0} (rule : B → ℕ → Rule R Q A) (found : ℕ → B) (count from : ℕ)
+    → eachOf rule (values found count from) from ≡ each (λ i. rule (found i) i) count from
+each-of-values rule found zero from = refl
+each-of-values {R} {Q} {A} rule found (suc count) from =
+    ap (λ (r : Rule R Q (List A)). rule (found from) from >>= (λ a. r >>= (λ l. done (a ∷ l)))) (each-of-values rule found count (suc from))
 
-module _ {R Q A : Type 0} (memory : Q → ℕ) (rule : ℕ → Rule R Q A) where
-  -- the first position that refuses
-  pub record StopsAt (count from : ℕ) (refusal : R) : Type 0 where
-    pub position : ℕ
-    pub low : from ≤ position
-    pub high : position < from + count
-    pub earlier : AllAnswer memory rule from position
-    pub stops : run memory (rule position) ≡ refused refusal
-
-  -- where a pass refuses, it is one of its positions that does
-  pub each-stops : (count from : ℕ) {refusal : R} → run memory (each rule count from) ≡ refused refusal → StopsAt count from refusal
-  each-stops zero from e = impossible (cc)
-  each-stops (suc count) from {refusal} e = by (λ h. each-stops count (suc from) h) (either memory (rule from) _ e)
+module _ {R Q B : Type 0} (memory : Q → ℕ) (rule : B → ℕ → Rule R Q ℕ) (bound : ℕ) where
+  -- a second pass whose rules all answer numbers below a bound
+  pub each-of-below : 0 < bound → ((b : B) (i answer : ℕ) → run memory (rule b i) ≡ ok answer → answer < bound)
+      → (found : List B) (from : ℕ) {answers : List ℕ} → run memory (eachOf rule found from) ≡ ok answers → (i : ℕ) → getD answers i 0 < bound
+  each-of-below some below [] from {answers} e i = let none : answers ≡ [] = cc in rw none some
+  each-of-below some below (b ∷ others) from {answers} e i =
+      let one = both memory (rule b from) _ e in
+      let rest = both memory (eachOf rule others (suc from)) _ (one .next) in
+      let is : answers ≡ one .first ∷ rest .first = cc (rest .next) in
+      rw is (by (rest .first) i (below b from (one .first) (one .found)) (each-of-below some below others (suc from) (rest .found)))
     where
-      later : {answer : A} → run memory (rule from) ≡ ok answer → StopsAt count (suc from) refusal → StopsAt (suc count) from refusal
-      later found rest =
-          record {
-            position = rest .position;
-            low = omega (arith, rest .low);
-            high = omega (arith, rest .high);
-            earlier = answer-more memory rule found (rest .earlier);
-            stops = rest .stops;
-          }
-
-      behind : (run memory (each rule count (suc from)) ≡ refused refusal → StopsAt count (suc from) refusal) → {answer : A} → run memory (rule from) ≡ ok answer
-          → Either memory (each rule count (suc from)) (λ answers. done (answer ∷ answers)) refusal → StopsAt (suc count) from refusal
-      behind rec found (at-first h) = later found (rec h)
-      behind rec found (at-second answers e h) = impossible (cc)
-
-      by : (run memory (each rule count (suc from)) ≡ refused refusal → StopsAt count (suc from) refusal)
-          → Either memory (rule from) (λ answer. each rule count (suc from) >>= (λ answers. done (answer ∷ answers))) refusal → StopsAt (suc count) from refusal
-      by rec (at-first h) = record { position = from; low = omega arith; high = omega arith; earlier = answer-none memory rule from; stops = h }
-      by rec (at-second answer found h) = behind rec found (either memory (each rule count (suc from)) _ h)
-
-  -- ---- how many answers a pass has
-
-  -- as many as positions
-  pub each-length : (count from : ℕ) {answers : List A} → run memory (each rule count from) ≡ ok answers → length answers ≡ count
-  each-length zero from {answers} e = let none : answers ≡ [] = cc in rw none refl
-  each-length (suc count) from {answers} e =
-      let first = both memory (rule from) _ e in
-      let rest = both memory (each rule count (suc from)) _ (first .next) in
-      let is : answers ≡ first .first ∷ rest .first = cc (rest .next) in
-      rw is (ap suc (each-length count (suc from) (rest .found)))
-
--- ---- a second pass
+      by : {first : ℕ} (later : List ℕ) (i : ℕ) → first < bound → ((j : ℕ) → getD later j 0 < bound) → getD (first ∷ later) i 0 < bound
+      by later zero here behind = here
+      by later (suc j) here behind = behind j
 
 module _ {R Q A B : Type 0} (memory : Q → ℕ) (rule : B → ℕ → Rule R Q A) where
   -- as many answers as values found
@@ -97,12 +70,12 @@ module _ {R Q A B : Type 0} (memory : Q → ℕ) (rule : B → ℕ → Rule R Q 
           let same : suc from + j ≡ from + suc j = omega arith in
           subst (λ (n : ℕ). AnswerOf first n (getD others j none)) same (later j (omega arith))
 
-      by : (b : B) (values : List B) {answers : List A} → run memory (first from) ≡ ok b → run memory (eachOf rule (b ∷ values) from) ≡ ok answers
-          → ((others : List A) → run memory (eachOf rule values (suc from)) ≡ ok others → (j : ℕ) → j < count → AnswerOf first (suc from + j) (getD others j none))
+      by : (b : B) (found-later : List B) {answers : List A} → run memory (first from) ≡ ok b → run memory (eachOf rule (b ∷ found-later) from) ≡ ok answers
+          → ((others : List A) → run memory (eachOf rule found-later (suc from)) ≡ ok others → (j : ℕ) → j < count → AnswerOf first (suc from + j) (getD others j none))
           → (i : ℕ) → i < suc count → AnswerOf first (from + i) (getD answers i none)
-      by b values {answers} found made later i h =
+      by b found-later {answers} found made later i h =
           let here = both memory (rule b from) _ made in
-          let behind = both memory (eachOf rule values (suc from)) _ (here .next) in
+          let behind = both memory (eachOf rule found-later (suc from)) _ (here .next) in
           let are : answers ≡ here .first ∷ behind .first = cc (behind .next) in
           rw are (at (behind .first) found (here .found) (later (behind .first) (behind .found)) i h)
 
