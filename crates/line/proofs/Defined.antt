@@ -2,9 +2,9 @@
 use Prim.Native.Nat.{ℕ}
 use mathlib.Core.Path.{_≡_, refl}
 use Rattle.rules.specs.Rule.{refused, run}
-use Rattle.rules.specs.Asks.{Asks}
 use Rattle.rules.specs.Faults.{Numbered}
 use Rattle.rules.proofs.Cases.{impossible}
+use Rattle.rules.proofs.Asks.{Asks}
 use Rattle.refusals.specs.Refusal.{numbered}
 use Rattle.refusals.specs.declared.Refusal.the-variants.{UndefinedEntry}
 use Rattle.line_colour.specs.declared.entry.Decoded.{Decoded}

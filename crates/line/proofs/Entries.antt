@@ -6,9 +6,9 @@ use mathlib.Core.List.{List}
 use native.Mathlib.Nat.{zero-add}
 use native.Mathlib.Omega.{arith}
 use lib.ListN.{length, getD}
-use Rattle.rules.specs.Rule.{Rule, Outcome, ok, refused, run, renamed}
+use Rattle.rules.specs.Rule.{Rule, Outcome, ok, refused, run}
 use Rattle.rules.specs.Faults.{Numbered}
-use Rattle.rules.proofs.Then.{run-ok, run-refused, run-within}
+use Rattle.rules.proofs.Then.{renamed, run-ok, run-refused, run-within}
 use Rattle.refusals.specs.Refusal.{numbered}
 use Rattle.refusals.specs.declared.Refusal.the-variants.{UndefinedEntry}
 use Rattle.line_colour.specs.Entry.{decoded}

@@ -3,11 +3,10 @@ use Prim.Native.Nat.{ℕ}
 use mathlib.Core.Path.{_≡_, refl, sym, subst, ap, _∙_}
 use mathlib.Core.List.{List, [], _++_, List·Memᴰ, List·Memᴰ·not-nil}
 use Rattle.rules.specs.Rule.{Rule, Outcome, ok, refused, run, reads, _>>=_}
-use Rattle.rules.specs.Asks.{Asks, NeverRefuses}
 use Rattle.rules.specs.Faults.{Numbered}
 use Rattle.rules.specs.Checked.{checked, verdict}
 use Rattle.rules.proofs.Then.{reads-ok, reads-refused}
-use Rattle.rules.proofs.Asks.{asks-reads, asks-then, refused-reads, asks-cond, asks-any, asks-each, never-each-of, asks-within}
+use Rattle.rules.proofs.Asks.{Asks, NeverRefuses, asks-reads, asks-then, refused-reads, asks-cond, asks-any, asks-each, never-each-of, asks-within}
 use Rattle.rules.proofs.Checked.{run-checked, checked-reads}
 use Rattle.rules.proofs.Value.{never-within}
 use Rattle.line_colour.specs.Entry.{decoded}
@@ -20,11 +19,16 @@ use Rattle.line_setup.specs.Faults.{lineFaults}
 use Rattle.line_setup.specs.declared.controls.Controls.{Controls}
 use Rattle.line_setup.specs.declared.setup.Setup.{Setup}
 use Rattle.line.specs.Screen.{screenIn}
-use Rattle.line.specs.Cells.{Cell, ofTable, ofColour, Lent, view}
+use Rattle.line.specs.Cells.{Cell, ofTable, windowEntry, ofColour, Lent, view}
 use Rattle.line.specs.Line.{inTable, startOf, idAt, windowEntryAt, entriesOf, coloursOf, lineRule, lineOf}
 use Rattle.line.proofs.Defined.{asks-nothing}
 use Rattle.line.proofs.Whole.{line-unfit, by-entries}
-use Rattle.line_reads.specs.Listed.{NoColour}
+
+-- no colour comes from the cell
+abbrev pub NoColour : Cell → Type 0
+NoColour (ofTable cell) = Unit {0}
+NoColour (windowEntry id) = Unit {0}
+NoColour (ofColour cell) = ⊥
 
 -- ---- the first pass asks for no other cell
 

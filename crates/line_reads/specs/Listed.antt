@@ -57,9 +57,3 @@ module _ (setup : Setup) (lent : Lent) where
 -- two lents agree on the cells that are listed for the line of the first
 abbrev pub AgreeOnList : Setup → Lent → Lent → Type 0
 AgreeOnList setup lent other = (cell : Cell) → Listed setup lent cell → view lent cell ≡ view other cell
-
--- no colour comes from the cell
-abbrev pub NoColour : Cell → Type 0
-NoColour (ofTable cell) = Unit {0}
-NoColour (windowEntry id) = Unit {0}
-NoColour (ofColour cell) = ⊥

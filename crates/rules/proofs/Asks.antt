@@ -1,4 +1,4 @@
--- What a rule may ask for bounds what it reads; a rule that never refuses adds nothing to a refusal. Assumes nothing.
+-- What a rule may do at all, whatever the memory holds: what it may ask for bounds what it reads; one that never refuses adds nothing to a refusal. Assumes nothing.
 use Prim.Native.Nat.{ℕ, zero, suc}
 use mathlib.Core.Path.{_≡_, refl, sym, ap, subst}
 use mathlib.Core.Bool.{Bool, true, false, cond}
@@ -6,8 +6,20 @@ use mathlib.Core.List.{List, [], _∷_, List·Memᴰ, List·Memᴰ·cases-cons, 
 use mathlib.Core.Logic.{⊎-elim}
 use Rattle.rules.specs.Rule.{Rule, done, stop, ask, ok, refused, run, reads, _>>=_, within}
 use Rattle.rules.specs.Each.{each, eachOf}
-use Rattle.rules.specs.Asks.{Asks, NeverRefuses}
 use Rattle.rules.proofs.Cases.{impossible}
+
+module _ {R Q A : Type 0} where
+  -- every cell that the rule may ask for is one of these
+  abbrev pub Asks : (Q → Type 0) → Rule R Q A → Type 0
+  Asks Allowed (done answer) = Unit {0}
+  Asks Allowed (stop refusal) = Unit {0}
+  Asks Allowed (ask cell next) = Allowed cell × ((held : ℕ) → Asks Allowed (next held))
+
+  -- the rule refuses nothing
+  abbrev pub NeverRefuses : Rule R Q A → Type 0
+  NeverRefuses (done answer) = Unit {0}
+  NeverRefuses (stop refusal) = ⊥
+  NeverRefuses (ask cell next) = (held : ℕ) → NeverRefuses (next held)
 
 module _ {R Q A : Type 0} (Allowed : Q → Type 0) (memory : Q → ℕ) where
   -- what is read is allowed

@@ -3,10 +3,10 @@ use Prim.Native.Nat.{ℕ}
 use mathlib.Core.Path.{_≡_, refl, sym, ap, subst, _∙_}
 use mathlib.Core.List.{List, List·Memᴰ·head, List·Memᴰ·tail, List·Memᴰ·cases-cons, List·Memᴰ·not-nil, List·Memᴰ·append-cases, Memᴰ·append-left, Memᴰ·append-right}
 use mathlib.Core.Logic.{⊎-elim}
-use Rattle.rules.specs.Rule.{Rule, done, stop, ask, Outcome, ok, refused, run, reads, _>>=_, within, andThen, andThenReads}
+use Rattle.rules.specs.Rule.{Rule, done, stop, ask, Outcome, ok, refused, run, reads, _>>=_, within, andThen}
 use Rattle.rules.proofs.Cases.{impossible}
 use Rattle.rules.proofs.Lists.{Among}
-use Rattle.rules.proofs.Then.{run-then, reads-then}
+use Rattle.rules.proofs.Then.{andThenReads, run-then, reads-then}
 
 -- ---- one rule and then another
 

@@ -2,8 +2,19 @@
 use Prim.Native.Nat.{ℕ}
 use mathlib.Core.Bool.{Bool, true, false, cond}
 use mathlib.Core.Path.{_≡_, refl, ap, _∙_}
-use mathlib.Core.List.{List, _∷_, _++_, append-nil}
-use Rattle.rules.specs.Rule.{Rule, done, stop, ask, Outcome, ok, refused, run, reads, _>>=_, andThen, andThenReads, within, renamed}
+use mathlib.Core.List.{List, [], _∷_, _++_, append-nil}
+use Rattle.rules.specs.Rule.{Rule, done, stop, ask, Outcome, ok, refused, run, reads, _>>=_, andThen, within}
+
+module _ {R A : Type 0} where
+  -- what an answer leads to read; a refusal reads nothing more
+  abbrev pub andThenReads : {Q : Type 0} → Outcome R A → (A → List Q) → List Q
+  andThenReads (ok answer) after = after answer
+  andThenReads (refused refusal) after = []
+
+  -- an outcome under other names for its refusals
+  abbrev pub renamed : {S : Type 0} → (R → S) → Outcome R A → Outcome S A
+  renamed name (ok answer) = ok answer
+  renamed name (refused refusal) = refused (name refusal)
 
 module _ {R Q A B : Type 0} (memory : Q → ℕ) where
   -- the outcome of one rule and then another

@@ -3,9 +3,9 @@ use Prim.Native.Nat.{ℕ}
 use mathlib.Core.Path.{_≡_, refl, subst}
 use mathlib.Core.Logic.{_⊎_, inl, inr}
 use Rattle.rules.specs.Rule.{Rule, done, stop, ask, ok, run, reads, _>>=_, within, value}
-use Rattle.rules.specs.Asks.{NeverRefuses}
 use Rattle.rules.proofs.Lists.{Among}
 use Rattle.rules.proofs.Parts.{Read, by-first, by-second, read-either, either-read}
+use Rattle.rules.proofs.Asks.{NeverRefuses}
 
 module _ {Q A B : Type 0} (memory : Q → ℕ) where
   -- the value of one rule and then another

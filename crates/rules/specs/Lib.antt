@@ -2,7 +2,6 @@ pub mod Rule
 pub mod First
 pub mod Lists
 pub mod Each
-pub mod Asks
 pub mod Faults
 pub mod Checked
 pub mod Unique

@@ -56,16 +56,6 @@ module _ {R A : Type 0} where
   andThen (ok answer) after = after answer
   andThen (refused refusal) after = refused refusal
 
-  -- what an answer leads to read; a refusal reads nothing more
-  abbrev pub andThenReads : {Q : Type 0} → Outcome R A → (A → List Q) → List Q
-  andThenReads (ok answer) after = after answer
-  andThenReads (refused refusal) after = []
-
-  -- an outcome under other names for its refusals
-  abbrev pub renamed : {S : Type 0} → (R → S) → Outcome R A → Outcome S A
-  renamed name (ok answer) = ok answer
-  renamed name (refused refusal) = refused (name refusal)
-
 module _ {Q A : Type 0} where
   -- the answer of a rule that has no refusals
   abbrev pub value : (Q → ℕ) → Rule ⊥ Q A → A
