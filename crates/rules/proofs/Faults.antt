@@ -15,41 +15,41 @@ abbrev answered : {Answer : Type 0} → Outcome Numbered Answer → Bool
 answered (ok answer) = true
 answered (refused refusal) = false
 
-module _ {Memory Answer : Type 0} (before : Memory) (done : Memory × Answer) where
+module _ {Memory Answer : Type 0} (before : Memory) (result : Memory × Answer) where
   -- what the first of some faults decides goes by its test
   by-test : (fault : Fault) (faults : List Fault) {test : Bool} → fault .holds ≡ test
-      → unless (fault ∷ faults) before done ≡ unless (record { holds = test; refusal = fault .refusal } ∷ faults) before done
-  by-test fault faults h = ap (λ test. unless (record { holds = test; refusal = fault .refusal } ∷ faults) before done) h
+      → unless (fault ∷ faults) before result ≡ unless (record { holds = test; refusal = fault .refusal } ∷ faults) before result
+  by-test fault faults h = ap (λ test. unless (record { holds = test; refusal = fault .refusal } ∷ faults) before result) h
 
   -- faults that are clear decide nothing
-  pub past-clear : (passed others : List Fault) → Clear passed → unless (passed ++ others) before done ≡ unless others before done
+  pub past-clear : (passed others : List Fault) → Clear passed → unless (passed ++ others) before result ≡ unless others before result
   past-clear [] others clear = refl
   past-clear (fault ∷ passed) others clear = by-test fault (passed ++ others) (clear .0) ∙ past-clear passed others (clear .1)
 
   -- where none holds, the call does what it does
-  pub none-holds : (faults : List Fault) → Clear faults → unless faults before done ≡ (done .0, ok (done .1))
+  pub none-holds : (faults : List Fault) → Clear faults → unless faults before result ≡ (result .0, ok (result .1))
   none-holds [] clear = refl
   none-holds (fault ∷ faults) clear = by-test fault faults (clear .0) ∙ none-holds faults (clear .1)
 
   -- the first that holds is the refusal, and all is left as it was
-  pub first-holds : (faults : List Fault) (refusal : Numbered) → First faults refusal → unless faults before done ≡ (before, refused refusal)
+  pub first-holds : (faults : List Fault) (refusal : Numbered) → First faults refusal → unless faults before result ≡ (before, refused refusal)
   first-holds faults refusal f =
-      ap (λ all. unless all before done) (f .order)
+      ap (λ all. unless all before result) (f .order)
       ∙ past-clear (f .passed) (f .found ∷ f .later) (f .clear)
       ∙ by-test (f .found) (f .later) (f .holds)
       ∙ ap (λ (r : Numbered). (before, refused r)) (f .is)
 
   -- what the first of some faults makes of the answer goes by its test
   outcome-of : (fault : Fault) (faults : List Fault) {test : Bool} → fault .holds ≡ test
-      → unless (fault ∷ faults) before done .1 ≡ unless (record { holds = test; refusal = fault .refusal } ∷ faults) before done .1
+      → unless (fault ∷ faults) before result .1 ≡ unless (record { holds = test; refusal = fault .refusal } ∷ faults) before result .1
   outcome-of fault faults h = ap (λ (all : Memory × Outcome Numbered Answer). all .1) (by-test fault faults h)
 
   -- and there is no other reason: a refusal is that of the first that holds
-  pub refused-first : (faults : List Fault) (refusal : Numbered) → unless faults before done .1 ≡ refused refusal → First faults refusal
+  pub refused-first : (faults : List Fault) (refusal : Numbered) → unless faults before result .1 ≡ refused refusal → First faults refusal
   refused-first [] refusal e = absurd (true≢false (ap answered e))
   refused-first (fault ∷ faults) refusal e = by (refused-first faults refusal) (fault .holds) refl
     where
-      by : (unless faults before done .1 ≡ refused refusal → First faults refusal) → (test : Bool) → fault .holds ≡ test → First (fault ∷ faults) refusal
+      by : (unless faults before result .1 ≡ refused refusal → First faults refusal) → (test : Bool) → fault .holds ≡ test → First (fault ∷ faults) refusal
       by on true h =
           record { passed = []; found = fault; later = faults; order = refl; clear = tt; holds = h; is = ap (refusal-of refusal) (sym (outcome-of fault faults h) ∙ e) }
       by on false h =
@@ -65,16 +65,16 @@ module _ {Memory Answer : Type 0} (before : Memory) (done : Memory × Answer) wh
           }
 
   -- an answer comes only where no fault holds
-  pub accepted-clear : (faults : List Fault) (answer : Answer) → unless faults before done .1 ≡ ok answer → Clear faults
+  pub accepted-clear : (faults : List Fault) (answer : Answer) → unless faults before result .1 ≡ ok answer → Clear faults
   accepted-clear [] answer e = tt
   accepted-clear (fault ∷ faults) answer e = by (accepted-clear faults answer) (fault .holds) refl
     where
-      by : (unless faults before done .1 ≡ ok answer → Clear faults) → (test : Bool) → fault .holds ≡ test → Clear (fault ∷ faults)
+      by : (unless faults before result .1 ≡ ok answer → Clear faults) → (test : Bool) → fault .holds ≡ test → Clear (fault ∷ faults)
       by on true h = absurd (true≢false (sym (ap answered (sym (outcome-of fault faults h) ∙ e))))
       by on false h = (h, on (sym (outcome-of fault faults h) ∙ e))
 
   -- a refused call leaves all as it was
-  pub refused-leaves : (faults : List Fault) (refusal : Numbered) → unless faults before done .1 ≡ refused refusal → unless faults before done .0 ≡ before
+  pub refused-leaves : (faults : List Fault) (refusal : Numbered) → unless faults before result .1 ≡ refused refusal → unless faults before result .0 ≡ before
   refused-leaves faults refusal e = ap (λ (all : Memory × Outcome Numbered Answer). all .0) (first-holds faults refusal (refused-first faults refusal e))
 
 -- ---- what the refusals of some faults have in common

@@ -76,14 +76,14 @@ module _ {A : Type 0} (f g : ℕ → A) where
   -- a run of so many, into what stands from x on
   run-on : (x count : ℕ) (room out last : List A) → out ≡ filled f 0 room x → last ≡ filled g x (take (length out - x) (drop x out)) count
       → ((p : ℕ) → x ≤ p → p < x + count → g p ≡ f p) → putMid x (length out - x) out last ≡ filled f 0 room (x + count)
-  run-on x count room out last before run same =
+  run-on x count room out last before drawn same =
       tail-back x out last
-      ∙ rw (run, tail-lent x out, before, take-at (values f x 0) (drop x room) x (length-values f x 0), drop-at (values f x 0) (drop x room) x (length-values f x 0), drop-drop, values-same g f count x same, values-add f x count 0, zero-add, append-assoc)
+      ∙ rw (drawn, tail-lent x out, before, take-at (values f x 0) (drop x room) x (length-values f x 0), drop-at (values f x 0) (drop x room) x (length-values f x 0), drop-drop, values-same g f count x same, values-add f x count 0, zero-add, append-assoc)
 
   -- a run up to `stop`, drawn by a callee that was lent `&mut out[x..]`, makes a list filled to x one filled to `stop`
   pub fill-run : (x stop : ℕ) (room out last : List A) → x ≤ stop → out ≡ filled f 0 room x
       → last ≡ filled g x (take (length out - x) (drop x out)) (stop - x)
       → ((p : ℕ) → x ≤ p → p < stop → g p ≡ f p) → putMid x (length out - x) out last ≡ filled f 0 room stop
-  fill-run x stop room out last below before run same =
+  fill-run x stop room out last below before drawn same =
       let sum : x + (stop - x) ≡ stop = omega arith in
-      rw sum at (run-on x (stop - x) room out last before run (λ p low high. same p low (omega arith)))
+      rw sum at (run-on x (stop - x) room out last before drawn (λ p low high. same p low (omega arith)))

@@ -38,5 +38,5 @@ placeIn refusal = getD (refusal .values) 0 0
 module _ {Memory Answer : Type 0} where
   -- what a call leaves and answers: at the first fault that holds all is left as it was, with its refusal; where none holds, what the call does
   abbrev pub unless : List Fault → Memory → Memory × Answer → Memory × Outcome Numbered Answer
-  unless [] before done = (done .0, ok (done .1))
-  unless (fault ∷ faults) before done = cond (fault .holds) (before, refused (fault .refusal)) (unless faults before done)
+  unless [] before result = (result .0, ok (result .1))
+  unless (fault ∷ faults) before result = cond (fault .holds) (before, refused (fault .refusal)) (unless faults before result)

@@ -13,6 +13,6 @@ abbrev pub joined : {A : Type 0} → List (List A) → List A
 joined [] = []
 joined (list ∷ lists) = list ++ joined lists
 
--- `room` with its first `count` elements replaced by the values at `from`, `from` + 1, ..
+-- `list` with its first `count` elements replaced by the values at `from`, `from` + 1, ..
 abbrev pub filled : {A : Type 0} → (ℕ → A) → ℕ → List A → ℕ → List A
-filled at from room count = values at count from ++ drop count room
+filled at from list count = values at count from ++ drop count list
