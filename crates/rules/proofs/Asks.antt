@@ -39,7 +39,7 @@ module _ {R Q A : Type 0} (memory : Q → ℕ) where
   never-refused (stop refusal) never e = never
   never-refused (ask cell on) never e = never-refused (on (memory cell)) (never (memory cell)) e
 
-  -- but an answer
+  -- a rule that never refuses has an answer
   pub never-answers : (rule : Rule R Q A) → NeverRefuses rule → (answer : A) × (run memory rule ≡ ok answer)
   never-answers (done answer) never = (answer, refl)
   never-answers (stop refusal) never = absurd never

@@ -11,6 +11,7 @@ use lib.Dec.{leb}
 pub impossible : {A : Type 0} → _≡_ {A = ℕ} 0 1 → A
 impossible e = absurd (omega arith)
 
+-- the test that compares two numbers tells which is the larger
 by-test : (a b : ℕ) (test : Bool) → leb a b ≡ test → (a ≤ b) ⊎ (b < a)
 by-test a b true e = inl (leb-true a b e)
 by-test a b false e = inr (leb-false a b e)

@@ -35,7 +35,7 @@ pub verdict-first : (faults : List Fault) (refusal : Numbered) → First faults 
 verdict-first faults refusal found =
     answered faults ∙ ap (λ (all : Unit {0} × Outcome Numbered (Unit {0})). all .1) (first-holds tt (tt, tt) faults refusal found)
 
--- and there is no other reason
+-- a verdict that refuses does so by the first fault that holds
 pub first-verdict : (faults : List Fault) (refusal : Numbered) → verdict faults ≡ refused refusal → First faults refusal
 first-verdict faults refusal e = refused-first {Memory = Unit {0}} tt (tt, tt) faults refusal (sym (answered faults) ∙ e)
 
@@ -56,7 +56,7 @@ module _ {Q : Type 0} (memory : Q → ℕ) where
   none-read true e = refl
   none-read false e = e
 
-  -- and it reads nothing
+  -- faults as a rule read nothing
   pub checked-reads : (faults : List Fault) → reads memory (checked faults) ≡ []
   checked-reads [] = refl
   checked-reads (fault ∷ faults) =

@@ -19,11 +19,11 @@ module _ {R Q A : Type 0} (memory : Q → ℕ) (rule : ℕ → Rule R Q A) (answ
   Answers count from = (i : ℕ) → from ≤ i → i < from + count → run memory (rule i) ≡ ok (answer-at i)
 
   module _ (count from : ℕ) (answers : Answers (suc count) from) where
-    -- the first of them answers
+    -- the first position answers
     here : run memory (rule from) ≡ ok (answer-at from)
     here = answers from (omega arith) (omega arith)
 
-    -- and so do the others
+    -- the positions behind the first answer
     later : Answers count (suc from)
     later = λ i low high. answers i (omega arith) (omega arith)
 
@@ -82,6 +82,7 @@ module _ {R Q A : Type 0} (memory : Q → ℕ) (rule : ℕ → Rule R Q A) where
   each-stops zero from e = impossible (cc)
   each-stops (suc count) from {refusal} e = by (λ h. each-stops count (suc from) h) (either memory (rule from) _ e)
     where
+      -- a refusal behind a position that answers
       later : {answer : A} → run memory (rule from) ≡ ok answer → StopsAt count (suc from) refusal → StopsAt (suc count) from refusal
       later found rest =
           record {
@@ -92,11 +93,13 @@ module _ {R Q A : Type 0} (memory : Q → ℕ) (rule : ℕ → Rule R Q A) where
             stops = rest .stops;
           }
 
+      -- putting the answers together refuses nothing, so it is a later position that does
       behind : (run memory (each rule count (suc from)) ≡ refused refusal → StopsAt count (suc from) refusal) → {answer : A} → run memory (rule from) ≡ ok answer
           → Either memory (each rule count (suc from)) (λ answers. done (answer ∷ answers)) refusal → StopsAt (suc count) from refusal
       behind rec found (at-first h) = later found (rec h)
       behind rec found (at-second answers e h) = impossible (cc)
 
+      -- the first position refuses, or one behind it
       by : (run memory (each rule count (suc from)) ≡ refused refusal → StopsAt count (suc from) refusal)
           → Either memory (rule from) (λ answer. each rule count (suc from) >>= (λ answers. done (answer ∷ answers))) refusal → StopsAt (suc count) from refusal
       by rec (at-first h) = record { position = from; low = omega arith; high = omega arith; earlier = answer-none from; stops = h }

@@ -30,6 +30,7 @@ module _ {R Q B : Type 0} (memory : Q → ℕ) (rule : B → ℕ → Rule R Q �
       let is : answers ≡ one .first ∷ rest .first = cc (rest .next) in
       rw is (by (rest .first) i (below b from (one .first) (one .found)) (each-of-below some below others (suc from) (rest .found)))
     where
+      -- the first answer, or one of the later ones
       by : {first : ℕ} (later : List ℕ) (i : ℕ) → first < bound → ((j : ℕ) → getD later j 0 < bound) → getD (first ∷ later) i 0 < bound
       by later zero here behind = here
       by later (suc j) here behind = behind j
@@ -61,6 +62,7 @@ module _ {R Q A B : Type 0} (memory : Q → ℕ) (rule : B → ℕ → Rule R Q 
       by (one .first) (rest .first) (one .found) (subst (λ (l : List B). run memory (eachOf rule l from) ≡ ok answers) is made)
       (λ others behind j h. answer-each-of first none count (suc from) (rest .found) behind j h) i below
     where
+      -- the answer at the first position, or at a later one
       at : {b : B} {answer : A} (others : List A) → run memory (first from) ≡ ok b → run memory (rule b from) ≡ ok answer
           → ((j : ℕ) → j < count → AnswerOf first (suc from + j) (getD others j none))
           → (i : ℕ) → i < suc count → AnswerOf first (from + i) (getD (answer ∷ others) i none)
@@ -70,6 +72,7 @@ module _ {R Q A B : Type 0} (memory : Q → ℕ) (rule : B → ℕ → Rule R Q 
           let same : suc from + j ≡ from + suc j = omega arith in
           subst (λ (n : ℕ). AnswerOf first n (getD others j none)) same (later j (omega arith))
 
+      -- the second pass taken apart: its answer to the first value, and those to the later ones
       by : (b : B) (found-later : List B) {answers : List A} → run memory (first from) ≡ ok b → run memory (eachOf rule (b ∷ found-later) from) ≡ ok answers
           → ((others : List A) → run memory (eachOf rule found-later (suc from)) ≡ ok others → (j : ℕ) → j < count → AnswerOf first (suc from + j) (getD others j none))
           → (i : ℕ) → i < suc count → AnswerOf first (from + i) (getD answers i none)
@@ -101,6 +104,7 @@ module _ {R Q A B : Type 0} (memory : Q → ℕ) (rule : B → ℕ → Rule R Q 
         by (one .first) (rest .first) (λ there. read-each-of count (suc from) (rest .found) there) (one .found)
         (read-either memory (rule (one .first) from) _ (subst (λ (l : List B). Among cell (reads memory (eachOf rule l from))) is here))
       where
+        -- a cell that is read at a later position
         later : ReadOf first count (suc from) cell → ReadOf first (suc count) from cell
         later rest =
             record {
@@ -112,18 +116,20 @@ module _ {R Q A B : Type 0} (memory : Q → ℕ) (rule : B → ℕ → Rule R Q 
               here = rest .here;
             }
 
+        -- putting the answers together reads nothing, so it is a later position that reads
         behind : (others : List B) {answer : A} → (Among cell (reads memory (eachOf rule others (suc from))) → ReadOf first count (suc from) cell)
             → Read memory (eachOf rule others (suc from)) (λ answers. done (answer ∷ answers)) cell → ReadOf first (suc count) from cell
         behind others rec (by-first there) = later (rec there)
         behind others rec (by-second answers e there) = absurd (List·Memᴰ·not-nil there)
 
+        -- the first position reads the cell, or one behind it
         by : (b : B) (others : List B) → (Among cell (reads memory (eachOf rule others (suc from))) → ReadOf first count (suc from) cell)
             → run memory (first from) ≡ ok b
             → Read memory (rule b from) (λ answer. eachOf rule others (suc from) >>= (λ answers. done (answer ∷ answers))) cell → ReadOf first (suc count) from cell
         by b others rec found (by-first there) = record { position = from; low = omega arith; high = omega arith; value = b; found = found; here = there }
         by b others rec found (by-second answer e there) = behind others rec (read-either memory (eachOf rule others (suc from)) _ there)
 
-    -- and where the second rule always answers, what it reads at a position the second pass reads
+    -- where the second rule always answers, what it reads at a position the second pass reads
     pub each-of-read : ((b : B) (i : ℕ) → (answer : A) × (run memory (rule b i) ≡ ok answer)) → (count from : ℕ) {found : List B} {cell : Q}
         → run memory (each first count from) ≡ ok found → ReadOf first count from cell → Among cell (reads memory (eachOf rule found from))
     each-of-read always zero from e at = absurd (omega (arith, at .low, at .high))

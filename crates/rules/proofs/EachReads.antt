@@ -25,9 +25,11 @@ module _ {R Q A : Type 0} (memory : Q → ℕ) (rule : ℕ → Rule R Q A) where
   read-each zero from here = absurd (List·Memᴰ·not-nil here)
   read-each (suc count) from {cell} here = by (λ there. read-each count (suc from) there) (read-either memory (rule from) _ here)
     where
+      -- a cell that the first position reads
       at-once : Among cell (reads memory (rule from)) → ReadAt (suc count) from cell
       at-once there = record { position = from; low = omega arith; high = omega arith; earlier = answer-none memory rule from; here = there }
 
+      -- a cell that is read behind a position that answers
       later : {answer : A} → run memory (rule from) ≡ ok answer → ReadAt count (suc from) cell → ReadAt (suc count) from cell
       later found rest =
           record {
@@ -38,11 +40,13 @@ module _ {R Q A : Type 0} (memory : Q → ℕ) (rule : ℕ → Rule R Q A) where
             here = rest .here;
           }
 
+      -- putting the answers together reads nothing, so it is a later position that reads
       behind : (Among cell (reads memory (each rule count (suc from))) → ReadAt count (suc from) cell) → {answer : A} → run memory (rule from) ≡ ok answer
           → Read memory (each rule count (suc from)) (λ answers. done (answer ∷ answers)) cell → ReadAt (suc count) from cell
       behind rec found (by-first there) = later found (rec there)
       behind rec found (by-second answers e there) = absurd (List·Memᴰ·not-nil there)
 
+      -- the first position reads the cell, or one behind it
       by : (Among cell (reads memory (each rule count (suc from))) → ReadAt count (suc from) cell)
           → Read memory (rule from) (λ answer. each rule count (suc from) >>= (λ answers. done (answer ∷ answers))) cell → ReadAt (suc count) from cell
       by rec (by-first there) = at-once there

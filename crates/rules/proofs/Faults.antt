@@ -44,11 +44,12 @@ module _ {Memory Answer : Type 0} (before : Memory) (result : Memory × Answer) 
       → unless (fault ∷ faults) before result .1 ≡ unless (record { holds = test; refusal = fault .refusal } ∷ faults) before result .1
   outcome-of fault faults h = ap (λ (all : Memory × Outcome Numbered Answer). all .1) (by-test fault faults h)
 
-  -- and there is no other reason: a refusal is that of the first that holds
+  -- a refusal is that of the first that holds: there is no other reason
   pub refused-first : (faults : List Fault) (refusal : Numbered) → unless faults before result .1 ≡ refused refusal → First faults refusal
   refused-first [] refusal e = absurd (true≢false (ap answered e))
   refused-first (fault ∷ faults) refusal e = by (refused-first faults refusal) (fault .holds) refl
     where
+      -- the first fault holds, or a later one is the first that does
       by : (unless faults before result .1 ≡ refused refusal → First faults refusal) → (test : Bool) → fault .holds ≡ test → First (fault ∷ faults) refusal
       by on true h =
           record { passed = []; found = fault; later = faults; order = refl; clear = tt; holds = h; is = ap (refusal-of refusal) (sym (outcome-of fault faults h) ∙ e) }
@@ -69,6 +70,7 @@ module _ {Memory Answer : Type 0} (before : Memory) (result : Memory × Answer) 
   accepted-clear [] answer e = tt
   accepted-clear (fault ∷ faults) answer e = by (accepted-clear faults answer) (fault .holds) refl
     where
+      -- the first fault is clear, as no answer would come otherwise, and so are the later ones
       by : (unless faults before result .1 ≡ ok answer → Clear faults) → (test : Bool) → fault .holds ≡ test → Clear (fault ∷ faults)
       by on true h = absurd (true≢false (sym (ap answered (sym (outcome-of fault faults h) ∙ e))))
       by on false h = (h, on (sym (outcome-of fault faults h) ∙ e))
@@ -85,12 +87,12 @@ module _ (Is : Numbered → Type 0) where
   EachHolding [] = Unit {0}
   EachHolding (fault ∷ faults) = (fault .holds ≡ true → Is (fault .refusal)) × EachHolding faults
 
-  -- then it is so of one that stands behind others
+  -- then the refusal of one that stands behind others is such, where it holds
   holding-at : (passed : List Fault) (found : Fault) (later : List Fault) → EachHolding (passed ++ (found ∷ later)) → found .holds ≡ true → Is (found .refusal)
   holding-at [] found later all holds = all .0 holds
   holding-at (fault ∷ passed) found later all holds = holding-at passed found later (all .1) holds
 
-  -- and so of the first that holds
+  -- and so is the refusal of the first that holds
   pub first-holding : {faults : List Fault} {refusal : Numbered} → EachHolding faults → First faults refusal → Is refusal
   first-holding all first =
       subst Is (first .is) (holding-at (first .passed) (first .found) (first .later) (subst EachHolding (first .order) all) (first .holds))

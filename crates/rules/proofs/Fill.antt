@@ -12,6 +12,7 @@ use Rattle.rules.specs.Lists.{values, filled}
 use Rattle.rules.proofs.Lists.{length-values, values-add}
 
 module _ {A : Type 0} (at : ℕ → A) where
+  -- a store behind the elements that are filled fills one more
   one-more : (count from : ℕ) (room : List A) → count < length room
       → set (filled at from room count) count (at (from + count)) ≡ filled at from room (suc count)
   one-more count from [] h = absurd (not-suc-le-zero h)
@@ -68,7 +69,7 @@ module _ {A : Type 0} where
   pub tail-lent : (x : ℕ) (list : List A) → take (length list - x) (drop x list) ≡ drop x list
   tail-lent x list = rw (← length-drop x list) (take-length (drop x list))
 
-  -- and what it is then comes back behind the first x
+  -- what was lent so comes back behind the first x
   pub tail-back : (x : ℕ) (list last : List A) → putMid x (length list - x) list last ≡ take x list ++ last
   tail-back x list last = rw (← length-drop x list, drop-length, append-nil)
 

@@ -13,6 +13,7 @@ use Rattle.rules.proofs.Cases.{impossible}
 use Rattle.rules.proofs.Then.{run-cond, reads-cond}
 
 module _ {R Q : Type 0} (missing : R) (cell : ℕ → Q) (passes : ℕ → Bool) (memory : Q → ℕ) where
+  -- the outcome of a search goes by the test of its first cell, and then by the search behind that
   step : (count from : ℕ)
       → run memory (firstFrom missing cell passes (suc count) from)
       ≡ cond (passes (memory (cell from))) (ok from) (run memory (firstFrom missing cell passes count (suc from)))
@@ -26,6 +27,7 @@ module _ {R Q : Type 0} (missing : R) (cell : ℕ → Q) (passes : ℕ → Bool)
     pub failed : (i : ℕ) → from ≤ i → i < at → passes (memory (cell i)) ≡ false
     pub read : reads memory (firstFrom missing cell passes count from) ≡ values cell (suc (at - from)) from
 
+  -- a search reads its first cell, and where that fails what the search behind it reads
   reads-step : (count from : ℕ) (test : Bool) → passes (memory (cell from)) ≡ test
       → reads memory (firstFrom missing cell passes (suc count) from)
       ≡ cell from ∷ cond test [] (reads memory (firstFrom missing cell passes count (suc from)))
@@ -34,6 +36,7 @@ module _ {R Q : Type 0} (missing : R) (cell : ℕ → Q) (passes : ℕ → Bool)
       (reads-cond memory (passes (memory (cell from))) (done from) (firstFrom missing cell passes count (suc from))
       ∙ ap (λ (t : Bool). cond t [] (reads memory (firstFrom missing cell passes count (suc from)))) e)
 
+  -- a search whose first cell passes finds that
   found-here : (count from : ℕ) {at : ℕ} → passes (memory (cell from)) ≡ true → from ≡ at → Found (suc count) from at
   found-here count from {at} test e = record {
     after = omega arith;
@@ -43,6 +46,7 @@ module _ {R Q : Type 0} (missing : R) (cell : ℕ → Q) (passes : ℕ → Bool)
     read = rw (← e, sub-self) (reads-step count from true test);
   }
 
+  -- a search whose first cell fails finds what the search behind it finds
   found-later : (count from : ℕ) {at : ℕ} → passes (memory (cell from)) ≡ false → Found count (suc from) at → Found (suc count) from at
   found-later count from {at} test later =
       let deep : at - from ≡ suc (at - suc from) = omega (arith, later .after) in
@@ -54,6 +58,7 @@ module _ {R Q : Type 0} (missing : R) (cell : ℕ → Q) (passes : ℕ → Bool)
         read = rw deep (reads-step count from false test ∙ ap (λ (cells : List Q). cell from ∷ cells) (later .read));
       }
 
+  -- a search that answers found its first cell or a later one
   by-test : (count from : ℕ) {at : ℕ} (test : Bool) → passes (memory (cell from)) ≡ test
       → cond test (ok from) (run memory (firstFrom missing cell passes count (suc from))) ≡ ok at
       → (run memory (firstFrom missing cell passes count (suc from)) ≡ ok at → Found count (suc from) at) → Found (suc count) from at
@@ -72,6 +77,7 @@ module _ {R Q : Type 0} (missing : R) (cell : ℕ → Q) (passes : ℕ → Bool)
     pub failed : (i : ℕ) → from ≤ i → i < from + count → passes (memory (cell i)) ≡ false
     pub read : reads memory (firstFrom missing cell passes count from) ≡ values cell count from
 
+  -- a search that finds nothing has a first cell that fails, and finds nothing behind it
   missing-by : (count from : ℕ) {refusal : R} (test : Bool) → passes (memory (cell from)) ≡ test
       → cond test (ok from) (run memory (firstFrom missing cell passes count (suc from))) ≡ refused refusal
       → (run memory (firstFrom missing cell passes count (suc from)) ≡ refused refusal → Missing count (suc from) refusal) → Missing (suc count) from refusal

@@ -41,10 +41,11 @@ module _ {A : Type 0} (at : ℕ → A) where
       ⊎-elim (λ same. record { position = from; low = omega arith; high = omega arith; is = same })
       (λ later. more (value-among count (suc from) later)) (List·Memᴰ·cases-cons here)
     where
+      -- a value behind the first is one of all
       more : ValueAt count (suc from) one → ValueAt (suc count) from one
       more found = record { position = found .position; low = omega (arith, found .low); high = omega (arith, found .high); is = found .is }
 
-  -- and each value is among them
+  -- each value is among the values
   pub among-values : (count from position : ℕ) → from ≤ position → position < from + count → Among (at position) (values at count from)
   among-values zero from position low high = absurd (omega arith)
   among-values (suc count) from position low high =

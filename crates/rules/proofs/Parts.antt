@@ -21,6 +21,7 @@ module _ {R Q A B : Type 0} (memory : Q → ℕ) (rule : Rule R Q A) (after : A 
   pub both : {answer : B} → run memory (rule >>= after) ≡ ok answer → Both answer
   both {answer} e = by (run memory rule) refl (sym (run-then memory rule after) ∙ e)
     where
+      -- the first answers, as it would else refuse both
       by : (outcome : Outcome R A) → run memory rule ≡ outcome → andThen outcome (λ a. run memory (after a)) ≡ ok answer → Both answer
       by (ok first) found next = record { first = first; found = found; next = next }
       by (refused refusal) found next = impossible (cc)
@@ -34,6 +35,7 @@ module _ {R Q A B : Type 0} (memory : Q → ℕ) (rule : Rule R Q A) (after : A 
   pub either : {refusal : R} → run memory (rule >>= after) ≡ refused refusal → Either refusal
   either {refusal} e = by (run memory rule) refl (sym (run-then memory rule after) ∙ e)
     where
+      -- the first refuses, or it answers and so the second refuses
       by : (outcome : Outcome R A) → run memory rule ≡ outcome → andThen outcome (λ a. run memory (after a)) ≡ refused refusal → Either refusal
       by (ok first) found next = at-second first found next
       by (refused other) found next = at-first (cc)
@@ -49,11 +51,12 @@ module _ {R Q A B : Type 0} (memory : Q → ℕ) (rule : Rule R Q A) (after : A 
       ⊎-elim by-first (by (run memory rule) refl)
       (List·Memᴰ·append-cases (reads memory rule) (subst (Among cell) (reads-then memory rule after) here))
     where
+      -- what is read behind the first is read by the second
       by : (outcome : Outcome R A) → run memory rule ≡ outcome → Among cell (andThenReads outcome (λ a. reads memory (after a))) → Read cell
       by (ok first) found here = by-second first found here
       by (refused refusal) found here = absurd (List·Memᴰ·not-nil here)
 
-  -- and what one reads, the two together do
+  -- what one of the two reads, they read together
   pub either-read : {cell : Q} → Read cell → Among cell (reads memory (rule >>= after))
   either-read {cell} (by-first here) = subst (Among cell) (sym (reads-then memory rule after)) (Memᴰ·append-left _ here)
   either-read {cell} (by-second first found here) =
@@ -78,10 +81,11 @@ module _ {R S P Q A : Type 0} (name : R → S) (into : P → Q) (memory : Q → 
       ⊎-elim (λ same. record { inner = asked; is = same; here = List·Memᴰ·head refl }) (λ later. more (read-within (next (memory (into asked))) later))
       (List·Memᴰ·cases-cons here)
     where
+      -- a cell that comes from a later one comes from one of all
       more : Becomes into (reads (λ c. memory (into c)) (next (memory (into asked)))) cell → Becomes into (reads (λ c. memory (into c)) (ask asked next)) cell
       more found = record { inner = found .inner; is = found .is; here = List·Memᴰ·tail (found .here) }
 
-  -- and all that they become is read
+  -- all that the cells of a rule become is read by the rule taken into more cells
   pub within-read : (rule : Rule R P A) {inner : P} → Among inner (reads (λ c. memory (into c)) rule) → Among (into inner) (reads memory (within name into rule))
   within-read (done answer) here = absurd (List·Memᴰ·not-nil here)
   within-read (stop refusal) here = absurd (List·Memᴰ·not-nil here)

@@ -3,11 +3,11 @@ use mathlib.Core.Path.{_≡_, ap, sym, _∙_}
 use Rattle.rules.specs.Unique.{OneAnswer, OneOutcome}
 
 module _ {K : Type 0} {Args Answer : K → Type 0} (Exit : K → Type 0) (is : (k : K) → Args k → Answer k) where
-  -- the answer, and nothing else
+  -- a contract that says what the answer is leaves one
   pub by-equation : OneAnswer {Exit = Exit} (λ k args answer exit. answer ≡ is k args)
   by-equation k args answer other exit exit′ p q = p ∙ sym q
 
-  -- the answer, and more of it
+  -- and so does one that says more of it
   pub by-equation-and : (More : (k : K) → Args k → Answer k → Exit k → Type 0)
       → OneAnswer {Exit = Exit} (λ k args answer exit. (answer ≡ is k args) × More k args answer exit)
   by-equation-and More k args answer other exit exit′ p q = p .0 ∙ sym (q .0)
@@ -29,7 +29,7 @@ module _ {K : Type 0} {Args Answer : K → Type 0} {State Memory Said : Type 0} 
       let e = p ∙ sym q in
       same k answer other (ap (λ (all : (State × Memory) × Said). all .0 .0) e) (ap (λ (all : (State × Memory) × Said). all .1) e)
 
-  -- and one outcome
+  -- where memory is lent to be changed, such an equation leaves one outcome too
   pub by-outcome : (Exit : K → Type 0) (left : (k : K) → Exit k → Memory) (is : (k : K) → Args k → (State × Memory) × Said)
       → OneOutcome {Exit = Exit} left (λ k args answer exit. ((state k answer, left k exit), said k answer) ≡ is k args)
   by-outcome Exit left is k args answer other exit exit′ p q =

@@ -28,7 +28,7 @@ module _ {S P Q A : Type 0} (name : ⊥ → S) (into : P → Q) where
   run-within-value memory (stop refusal) = absurd refusal
   run-within-value memory (ask cell next) = run-within-value memory (next (memory (into cell)))
 
-  -- and it still refuses nothing
+  -- a rule without refusals refuses nothing when it is taken into more
   pub never-within : (rule : Rule ⊥ P A) → NeverRefuses (within name into rule)
   never-within (done answer) = tt
   never-within (stop refusal) = absurd refusal
@@ -39,12 +39,13 @@ module _ {Q A B : Type 0} (memory : Q → ℕ) (rule : Rule ⊥ Q A) (after : A 
   pub read-value : Among cell (reads memory (rule >>= after)) → Among cell (reads memory rule) ⊎ Among cell (reads memory (after (value memory rule)))
   read-value here = by (read-either memory rule after here)
     where
+      -- the answer of the first is its value
       by : Read memory rule after cell → Among cell (reads memory rule) ⊎ Among cell (reads memory (after (value memory rule)))
       by (by-first there) = inl there
       by (by-second first found there) =
           let is : first ≡ value memory rule = cc (found, run-value memory rule) in inr (subst (λ (a : A). Among cell (reads memory (after a))) is there)
 
-  -- and the other way round
+  -- what the first reads, or the second by the value of the first, the two read
   pub value-read : Among cell (reads memory rule) ⊎ Among cell (reads memory (after (value memory rule))) → Among cell (reads memory (rule >>= after))
   value-read (inl there) = either-read memory rule after (by-first there)
   value-read (inr there) = either-read memory rule after (by-second (value memory rule) (run-value memory rule) there)
