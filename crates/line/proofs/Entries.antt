@@ -75,9 +75,9 @@ module _ (controls : Controls) (table : List ℕ) where
         ∙ refused-serves (tableView table) (length table) start from x (passed on) (sym says))
 
 -- off, every pixel has ID 0
-pub id-off : (controls : Controls) (lent : Lent) (length start p : ℕ) → controls .ids ≡ false → run (view lent) (idAt controls length start p) ≡ ok 0
+pub id-off : (controls : Controls) (lent : Lent) (tableBytes start p : ℕ) → controls .ids ≡ false → run (view lent) (idAt controls tableBytes start p) ≡ ok 0
 unfolding idAt
-id-off controls lent length start p off = rw off refl
+id-off controls lent tableBytes start p off = rw off refl
 
 -- of a window entry the decoder looks at the kept bits alone
 kept-decoded : (store : List ℕ) (id depth : ℕ) → decoded (stored store (record { block = WindowEntries; word = id })) depth ≡ decoded (getD store id 0) depth

@@ -16,6 +16,7 @@ use Rattle.refusals.specs.declared.Answer.{Answer}
 use Rattle.line_colour.specs.declared.entry.WindowEntry.{WindowEntry}
 use Rattle.chip_registers.specs.Store.{storeLength}
 use Rattle.line_windows.specs.Table.{tableView}
+use Rattle.line_windows.specs.Carried.{idBelow}
 use Rattle.line_windows.specs.Inner.{PassedIds}
 use Rattle.line_windows.specs.declared.frame.LineTable.{LineTable}
 use Rattle.line_windows.specs.declared.frame.LineTable.the-variants.{Starts, Refused as NoTable}
@@ -24,6 +25,7 @@ use Rattle.line_windows.specs.declared.ids.LookedUp.the-variants.{Id, Refused a
 use Rattle.line_pixels.specs.Cells.{PixelCell, pixelView}
 use Rattle.line_pixels.specs.Colour.{SaidAt, colourOfPixel}
 use Rattle.line_pixels.specs.declared.Screen.{Screen}
+use Rattle.line_setup.specs.Controls.{widestLine}
 use Rattle.line_setup.specs.Faults.{normalLength, lineFaults}
 use Rattle.line_setup.specs.declared.controls.Controls.{Controls}
 use Rattle.line_setup.specs.declared.setup.Setup.{Setup}
@@ -34,7 +36,7 @@ use Rattle.line.specs.declared.runs.RunAt.the-variants.{Is, Refused as N
 
 -- the ranges of width and depth
 pub record InRange (controls : Controls) : Type 0 where
-  pub width-le : controls .width ≤ 2048
+  pub width-le : controls .width ≤ widestLine
   pub at-depth : (controls .depth ≡ 16) ⊎ (controls .depth ≡ 32)
 
 -- the depth and the overlay switch that the pixels are drawn by are those of the control words
@@ -53,7 +55,7 @@ PassedAt controls table start from x = controls .ids ≡ true → PassedIds (tab
 -- the look-up's answer for pixel x: an ID that all pixels to the last one have, past which it may go on, or the pixel's refusal
 abbrev pub Served : Controls → List ℕ → ℕ → ℕ → LookedUp → Type 0
 Served controls table start x (Id found) =
-    (found .id < 32)
+    idBelow (Id found)
     × (x ≤ found .last)
     × PassedAt controls table start (found .next) (found .last + 1)
     × ((store : List ℕ) → Over store table (λ memory. (p : ℕ) → x ≤ p → p ≤ found .last → run memory (idAt controls (length table) start p) ≡ ok (found .id)))

@@ -8,6 +8,10 @@ use Rattle.words.specs.Field.{field}
 use Rattle.chip_timing.specs.Move.{totalWidth, totalLines}
 use Rattle.line_setup.specs.declared.controls.Controls.{Controls}
 
+-- the most pixels that a line can have
+abbrev pub widestLine : ℕ
+widestLine = 2048
+
 -- a switch of control word 0
 unfoldable pub switch : ℕ → ℕ → Bool
 switch word bit = eqb (field word bit bit) 1
