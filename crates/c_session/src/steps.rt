@@ -19,10 +19,31 @@ use session::session::Session;
 use session::step::step;
 use session_answers::StepAnswer;
 use session_listing::entry::ListingEntry;
+use session_listing::render::FIRST_LINE_ROOM;
+use session_listing::render::PIXEL_ROOM;
 use session_listing::render::Rendered;
 use session_listing::render::render;
 use session_rooms::Counts;
+use session_rooms::LONGEST_LINE;
 use session_rooms::step_check;
+
+// How many bytes of text are lent at least: every entry has room in them.
+pub const TEXT_ROOM: usize = FIRST_LINE_ROOM + PIXEL_ROOM * LONGEST_LINE;
+
+// The call is refused, and all is as it was.
+pub const STATUS_REFUSED: u32 = 0;
+
+// A record was run, and its entry is the text.
+pub const STATUS_LISTED: u32 = 1;
+
+// The end record is reached.
+pub const STATUS_END: u32 = 2;
+
+// The bytes end before or within a record, and the file goes on.
+pub const STATUS_MORE: u32 = 3;
+
+// A fault of the file, which the text lists.
+pub const STATUS_STOPPED: u32 = 4;
 
 // What a step answers.
 #[repr(C)]
@@ -73,23 +94,23 @@ fn status_in_numbers(answer: StepAnswer) -> StatusNumbers
 {
     match answer {
         StepAnswer::Refused(refusal) => StatusNumbers {
-            status: 0,
+            status: STATUS_REFUSED,
             refusal: refused_by(refusal),
         },
         StepAnswer::Listed(entry) => StatusNumbers {
-            status: 1,
+            status: STATUS_LISTED,
             refusal: entry_refusal(entry),
         },
         StepAnswer::End => StatusNumbers {
-            status: 2,
+            status: STATUS_END,
             refusal: nothing(),
         },
         StepAnswer::More => StatusNumbers {
-            status: 3,
+            status: STATUS_MORE,
             refusal: nothing(),
         },
         StepAnswer::Stopped(refusal) => StatusNumbers {
-            status: 4,
+            status: STATUS_STOPPED,
             refusal: refused_by(refusal),
         },
     }
@@ -155,7 +176,7 @@ pub extern "C" fn bulitampaw_step(
 ) -> Stepped
     ensures { λ r. ⌜ (r, (roomsOf (now (store .exit)) (now (table .exit)) (now (normal .exit)) (now (overlay .exit)) (now (output .exit)), now (text .exit))) ≡ stepInNumbers session (roomsOf (now (store .entry)) (now (table .entry)) (now (normal .entry)) (now (overlay .entry)) (now (output .entry))) (now (text .entry)) (now (bytes .entry)) place (not (eqb last 0)) ⌝ }
 {
-    if text.len() < 14368 {
+    if text.len() < TEXT_ROOM {
         let counts = session.counts;
         let refusal = short_of_text(
             counts,
@@ -170,7 +191,7 @@ pub extern "C" fn bulitampaw_step(
             next: place,
             text: 0,
             refusal,
-            status: 0,
+            status: STATUS_REFUSED,
         };
     }
     let stepped = step(

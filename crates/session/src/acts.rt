@@ -6,6 +6,7 @@ ghost use Rattle.refusals.specs.Refusal.{answerOutcome};
 ghost use Rattle.chip.specs.Write.{written};
 ghost use Rattle.chip.specs.Dots.{ran};
 ghost use Rattle.chip.specs.Report.{dotsOutcome};
+ghost use Rattle.session_records.specs.Tags.{mostRecords};
 ghost use Rattle.session_listing.specs.Text.{entrySays, saysLine};
 ghost use Rattle.session_listing.specs.Text.{saysOk};
 ghost use Rattle.session_answers.specs.Status.{stepOutcome};
@@ -74,7 +75,7 @@ impl Session {
 
     // After one more record, which lists this entry.
     fn listed(mut self, entry: ListingEntry) -> Acted
-        requires { ⌜ self .records < 1000000 ⌝ }
+        requires { ⌜ self .records < mostRecords ⌝ }
         ensures { λ r. ⌜ (r .session, stepOutcome (r .answer)) ≡ listedIn self (entrySays entry) ⌝ }
     {
         self.records += 1;
@@ -86,7 +87,7 @@ impl Session {
 
     // After one more record, which left so many bytes of table and rows.
     fn holding(mut self, counts: Counts) -> Acted
-        requires { ⌜ self .records < 1000000 ⌝ }
+        requires { ⌜ self .records < mostRecords ⌝ }
         ensures { λ r. ⌜ (r .session, stepOutcome (r .answer)) ≡ listedIn (withCounts self counts) saysOk ⌝ }
     {
         self.counts = counts;
@@ -95,7 +96,7 @@ impl Session {
 
     // A write.
     fn write(self, store: &mut [u32], address: u32, value: u32) -> Acted
-        requires { ⌜ self .records < 1000000 ⌝ }
+        requires { ⌜ self .records < mostRecords ⌝ }
         ensures { λ r. ⌜ ((r .session, now (store .exit)), stepOutcome (r .answer)) ≡ askedIn self saysOk (written (self .state, now (store .entry)) address value) ⌝ }
     {
         let state = self.state;
@@ -108,7 +109,7 @@ impl Session {
 
     // Some dots.
     fn dots(self, store: &mut [u32], count: u32) -> Acted
-        requires { ⌜ self .records < 1000000 ⌝ }
+        requires { ⌜ self .records < mostRecords ⌝ }
         ensures { λ r. ⌜ ((r .session, now (store .exit)), stepOutcome (r .answer)) ≡ askedIn self (atPosition (ran (self .state, now (store .entry)) count .0 .0 .at)) (ran (self .state, now (store .entry)) count) ⌝ }
     {
         let state = self.state;
@@ -129,7 +130,7 @@ impl Session {
         overlay: &[u8],
         output: &mut [u32],
     ) -> Acted
-        requires { ⌜ self .records < 1000000 ⌝ }
+        requires { ⌜ self .records < mostRecords ⌝ }
         requires { ⌜ Within self (roomsOf (now store) (now table) (now normal) (now overlay) (now output)) ⌝ }
         ensures { λ r. ⌜ ((r .session, now (output .exit)), stepOutcome (r .answer)) ≡ askedIn self (saysLine y (controlsOf (self .state .control) .width)) (drawn (requestOf (self .state) y) (lentOf (now (store .entry)) (take (self .counts .table) (now (table .entry))) (take (self .counts .normal) (now (normal .entry))) (take (self .counts .overlay) (now (overlay .entry)))) (now (output .entry))) ⌝ }
     {
@@ -169,7 +170,7 @@ impl Session {
         overlay: &mut [u8],
         output: &mut [u32],
     ) -> Acted
-        requires { ⌜ self .records < 1000000 ⌝ }
+        requires { ⌜ self .records < mostRecords ⌝ }
         requires { ⌜ Within self (roomsOf (now store) (now table) (now normal) (now overlay) (now output)) ⌝ }
         requires { ⌜ BodyFits self (roomsOf (now store) (now table) (now normal) (now overlay) (now output)) which (now body) ⌝ }
         ensures { λ r. ⌜ ((r .session, roomsOf (now (store .exit)) (now (table .exit)) (now (normal .exit)) (now (overlay .exit)) (now (output .exit))), stepOutcome (r .answer)) ≡ actedIn self (roomsOf (now (store .entry)) (now (table .entry)) (now (normal .entry)) (now (overlay .entry)) (now (output .entry))) which (now (body .entry)) ⌝ }

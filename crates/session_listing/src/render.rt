@@ -3,12 +3,18 @@ ghost use Prim.Native.Nat.{_+_, _*_, _≤_};
 ghost use mathlib.Core.Path.{_≡_};
 ghost use lib.ListN.{length, take};
 ghost use Rattle.session_listing.specs.Text.{entrySays};
-ghost use Rattle.session_listing.specs.Room.{rendered};
+ghost use Rattle.session_listing.specs.Room.{roomOf, rendered};
 ghost use Rattle.session_listing.specs.Inner.{Put, lineAnd};
 use crate::entry::ListingEntry;
 use crate::parts::Parts;
 use crate::put::put_parts;
 use crate::put::put_pixels;
+
+// How many bytes a first line is granted, with its end.
+pub const FIRST_LINE_ROOM: usize = 32;
+
+// How many bytes a pixel has: six digits, and the line's end.
+pub const PIXEL_ROOM: usize = 7;
 
 // The place after the text put, or that there was no room for it.
 pub enum Rendered {
@@ -18,7 +24,7 @@ pub enum Rendered {
 
 // A first line and the pixels that follow it.
 fn put_entry(parts: Parts, output: &[u32], lent: &mut [u8], at: usize) -> usize
-    requires { ⌜ (parts .from + parts .letters ≤ 15) × (parts .letters ≤ 7) × (parts .shown ≤ length (now output)) × (at + (32 + 7 * parts .shown) ≤ length (now lent)) ⌝ }
+    requires { ⌜ (parts .from + parts .letters ≤ 15) × (parts .letters ≤ 7) × (parts .shown ≤ length (now output)) × (at + roomOf (parts .shown) ≤ length (now lent)) ⌝ }
     ensures { λ r. ⌜ Put (now (lent .entry)) at (lineAnd parts (take (parts .shown) (now (output .entry)))) (now (lent .exit)) r ⌝ }
 {
     let last = put_parts(lent, at, parts);
@@ -34,7 +40,7 @@ pub fn render(entry: ListingEntry, output: &[u32], text: &mut [u8], at: usize) -
     if text.len() < at {
         return Rendered::NoRoom;
     }
-    if text.len() - at < 32 + 7 * parts.shown {
+    if text.len() - at < FIRST_LINE_ROOM + PIXEL_ROOM * parts.shown {
         return Rendered::NoRoom;
     }
     Rendered::To(put_entry(parts, output, text, at))

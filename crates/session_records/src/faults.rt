@@ -1,18 +1,24 @@
 // The three faults of a record at the front of some bytes.
 ghost use mathlib.Core.Path.{_≡_};
 ghost use Rattle.session_records.specs.Faults.{unknownTag, wrongLength, tooManyDots, wrong, tooManyRecords, tooLongTable, tooMuch, missing};
+use crate::LONGEST_TABLE;
+use crate::MOST_DOTS;
+use crate::MOST_RECORDS;
 use crate::parts::length_of;
 use crate::record::Context;
+use crate::tags::DOTS;
+use crate::tags::LINE;
+use crate::tags::TABLE;
 use crate::tags::allows;
 
-// Whether there is no such tag.
+// Whether there is no such tag: a line's is the last.
 fn unknown_tag(bytes: &[u8]) -> bool
     ensures { λ r. ⌜ r ≡ unknownTag (now (bytes .entry)) ⌝ }
 {
     if bytes.len() < 1 {
         return false;
     }
-    6 < bytes[0]
+    LINE < bytes[0]
 }
 
 // Whether the tag doesn't allow the length.
@@ -32,10 +38,10 @@ fn too_many_dots(bytes: &[u8]) -> bool
     if bytes.len() < 7 {
         return false;
     }
-    if bytes[0] != 2 {
+    if bytes[0] != DOTS {
         return false;
     }
-    16777216 < words::be32(bytes, 3)
+    MOST_DOTS < words::be32(bytes, 3)
 }
 
 // Whether the record is wrong: 12.
@@ -58,7 +64,7 @@ fn too_many_records(bytes: &[u8], number: u32) -> bool
     if bytes.len() < 1 {
         return false;
     }
-    1000000 <= number
+    MOST_RECORDS <= number
 }
 
 // Whether the table has more than 65,536 bytes with these.
@@ -68,13 +74,13 @@ fn too_long_table(bytes: &[u8], table: usize) -> bool
     if bytes.len() < 3 {
         return false;
     }
-    if bytes[0] != 3 {
+    if bytes[0] != TABLE {
         return false;
     }
-    if 65536 < table {
+    if LONGEST_TABLE < table {
         return true;
     }
-    65536 - table < length_of(bytes)
+    LONGEST_TABLE - table < length_of(bytes)
 }
 
 // Whether the record is too much: 14.

@@ -5,6 +5,7 @@ ghost use lib.ListN.{length};
 ghost use Rattle.session_records.specs.Tags.{lengthsOf};
 ghost use Rattle.session_records.specs.Parts.{tagOf, lengthOf, recordOf};
 use crate::record::Record;
+use crate::tags;
 
 // The body's length.
 pub(crate) fn length_of(bytes: &[u8]) -> usize
@@ -21,15 +22,15 @@ pub(crate) fn record_of(bytes: &[u8]) -> Record
 {
     let tag = bytes[0];
     match tag {
-        0 => Record::End,
-        1 => Record::Write {
+        tags::END => Record::End,
+        tags::WRITE => Record::Write {
             address: words::be32(bytes, 3),
             value: words::be32(bytes, 7),
         },
-        2 => Record::Dots(words::be32(bytes, 3)),
-        3 => Record::Table,
-        4 => Record::Normal,
-        5 => Record::Overlay,
+        tags::DOTS => Record::Dots(words::be32(bytes, 3)),
+        tags::TABLE => Record::Table,
+        tags::NORMAL => Record::Normal,
+        tags::OVERLAY => Record::Overlay,
         _ => Record::Line(words::be16(bytes, 3)),
     }
 }

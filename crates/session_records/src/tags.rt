@@ -1,10 +1,36 @@
 // The tags, and the lengths of a body that each allows.
 ghost use mathlib.Core.Path.{_≡_};
 ghost use Rattle.session_records.specs.Tags.{just, upTo, lengthsOf, allows};
+use crate::LONGEST_BODY;
+use crate::LONGEST_NORMAL;
+use crate::LONGEST_OVERLAY;
+
+// The end of the run.
+pub(crate) const END: u8 = 0;
+
+// A write.
+pub(crate) const WRITE: u8 = 1;
+
+// Some dots.
+pub(crate) const DOTS: u8 = 2;
+
+// Bytes of the ID table.
+pub(crate) const TABLE: u8 = 3;
+
+// A normal row.
+pub(crate) const NORMAL: u8 = 4;
+
+// An overlay row.
+pub(crate) const OVERLAY: u8 = 5;
+
+// A line.
+pub(crate) const LINE: u8 = 6;
 
 // The shortest and the longest body.
 pub struct Lengths {
+    // Of the shortest.
     pub least: usize,
+    // Of the longest.
     pub most: usize,
 }
 
@@ -33,13 +59,13 @@ fn lengths_of(tag: u8) -> Lengths
     ensures { λ r. ⌜ r ≡ lengthsOf tag ⌝ }
 {
     match tag {
-        0 => just(0),
-        1 => just(8),
-        2 => just(4),
-        3 => up_to(65535),
-        4 => up_to(8192),
-        5 => up_to(2048),
-        6 => just(2),
+        END => just(0),
+        WRITE => just(8),
+        DOTS => just(4),
+        TABLE => up_to(LONGEST_BODY),
+        NORMAL => up_to(LONGEST_NORMAL),
+        OVERLAY => up_to(LONGEST_OVERLAY),
+        LINE => just(2),
         _ => just(0),
     }
 }

@@ -3,8 +3,15 @@ ghost use mathlib.Core.Path.{_≡_};
 ghost use Rattle.rules.specs.Checked.{verdict};
 ghost use Rattle.refusals.specs.Refusal.{answerOutcome};
 ghost use Rattle.session_rooms.specs.Rooms.{tooMuchHeld, roomFaults, lentFaults};
+use chip_registers::STORE_WORDS;
 use refusals::Answer;
 use refusals::Refusal;
+use session_records::LONGEST_NORMAL;
+use session_records::LONGEST_OVERLAY;
+use session_records::LONGEST_TABLE;
+
+// How many words the longest line has: the active width less 1 has 11 bits.
+pub const LONGEST_LINE: usize = 2048;
 
 // How many bytes of the lent table and rows are there.
 #[repr(C)]
@@ -21,32 +28,32 @@ pub struct Counts {
 fn too_much_held(table: usize, normal: usize, overlay: usize) -> bool
     ensures { λ r. ⌜ r ≡ tooMuchHeld table normal overlay ⌝ }
 {
-    if 65536 < table {
+    if LONGEST_TABLE < table {
         return true;
     }
-    if 8192 < normal {
+    if LONGEST_NORMAL < normal {
         return true;
     }
-    2048 < overlay
+    LONGEST_OVERLAY < overlay
 }
 
 // The lengths of the rooms, at the lowest place: 5.
 fn rooms_check(store: usize, table: usize, normal: usize, overlay: usize, output: usize) -> Answer
     ensures { λ r. ⌜ answerOutcome r ≡ verdict (roomFaults store table normal overlay output) ⌝ }
 {
-    if store != chip_registers::STORE_WORDS {
+    if store != STORE_WORDS {
         return Answer::Refused(Refusal::StoreLength);
     }
-    if table != 65536 {
+    if table != LONGEST_TABLE {
         return Answer::Refused(Refusal::TableLength);
     }
-    if normal != 8192 {
+    if normal != LONGEST_NORMAL {
         return Answer::Refused(Refusal::NormalLength);
     }
-    if overlay != 2048 {
+    if overlay != LONGEST_OVERLAY {
         return Answer::Refused(Refusal::OverlayLength);
     }
-    if output != 2048 {
+    if output != LONGEST_LINE {
         return Answer::Refused(Refusal::OutputLength);
     }
     Answer::Done
