@@ -32,7 +32,7 @@ by-fault : (test : Bool) (one other : Numbered) (rest : Outcome Numbered (Unit {
 by-fault true one other rest e = refl
 by-fault false one other rest e = e
 
--- which is what the rooms are refused by, or else the text
+-- the refusal by the rooms, or else by the text, is the first of all faults
 by-rooms-or-text : (faults : List Fault) → orText (verdict faults) ≡ refusedBy (firstOr faults shortText)
 by-rooms-or-text [] = refl
 by-rooms-or-text (fault ∷ faults) = by-fault (fault .holds) (fault .refusal) (firstOr faults shortText) (verdict faults) (by-rooms-or-text faults)
@@ -50,7 +50,7 @@ module _ (output lent : List ℕ) (long : textRoom ≤ length lent) where
   entry-put entry short =
       rw (le-leb (0 + roomFor entry output) (length lent) (omega (arith, shown-short entry output, short, long)), zero-add (length (text entry output))) refl
 
-  -- and so has whatever a call comes to
+  -- in a text long enough there is room for whatever a call comes to
   text-put : (outcome : Outcome Numbered Status) → ((status : Status) → outcome ≡ ok status → length output ≤ longestLine)
       → putText outcome output lent ≡ (length (textBy outcome output), laid lent (textBy outcome output))
   text-put (ok (listed entry)) short = entry-put entry (short (listed entry) refl)

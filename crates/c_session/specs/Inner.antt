@@ -22,7 +22,7 @@ putOf NoRoom = 0
 abbrev pub putEntry : EntrySays → List ℕ → List ℕ → ℕ × List ℕ
 putEntry entry output lent = let after = rendered entry output lent 0 in (putOf (after .0), after .1)
 
--- the same of what a call comes to
+-- the text of what a call comes to, put at the front: how many bytes, and the lent bytes after it
 abbrev pub putText : Outcome Numbered Status → List ℕ → List ℕ → ℕ × List ℕ
 putText (ok (listed entry)) output lent = putEntry entry output lent
 putText (ok ended) output lent = (0, lent)

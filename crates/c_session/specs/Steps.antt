@@ -27,9 +27,9 @@ textRoom = roomOf longestLine
 abbrev pub shortText : Numbered
 shortText = record { number = 5; values = 6 ∷ [] }
 
--- whether it is
+-- a text of so many bytes is too short
 abbrev pub textFault : ℕ → Fault
-textFault length = record { holds = ltb length textRoom; refusal = shortText }
+textFault lent = record { holds = ltb lent textRoom; refusal = shortText }
 
 -- 11, 5 by the rooms, 5 by the text
 abbrev pub stepTextFaults : Session → Rooms → List ℕ → List Fault
@@ -60,13 +60,13 @@ abbrev pub textBy : Outcome Numbered Status → List ℕ → List ℕ
 textBy (ok status) output = textOf output status
 textBy (refused refusal) output = []
 
--- a step
+-- a step's answer: session and next place, status and refusal, and how many bytes of text were put
 abbrev pub stepAnswer : Session × ℕ → StatusNumbers → ℕ → Stepped
-stepAnswer left numbers text =
+stepAnswer left numbers put =
     record {
       session = left .0;
       next = left .1;
-      text = text;
+      text = put;
       refusal = numbers .refusal;
       status = numbers .status;
     }

@@ -16,15 +16,15 @@ use Rattle.replay.specs.declared.course.Course.{Course}
 abbrev pub begun : Course
 begun = record { from = 0; to = 0; last = false; put = 0; going = On }
 
--- with the next record at a place
+-- a run with the next record at a place
 abbrev pub withFrom : Course → ℕ → Course
 withFrom course from = record { from = from; to = course .to; last = course .last; put = course .put; going = course .going }
 
--- with text up to a place
+-- a run with text up to a place
 abbrev pub withPut : Course → ℕ → Course
 withPut course put = record { from = course .from; to = course .to; last = course .last; put = put; going = course .going }
 
--- with the run ended so
+-- a run that is ended so
 abbrev pub ended : Course → Going → Course
 ended course going = record { from = course .from; to = course .to; last = course .last; put = course .put; going = going }
 
@@ -45,6 +45,6 @@ putBehind entry output lent course =
     let bytes = text entry output in
     (withPut course (course .put + length bytes), placed lent (course .put) bytes)
 
--- there is room for it
+-- there is room for its text
 abbrev pub hasRoom : EntrySays → List ℕ → List ℕ → Course → Bool
 hasRoom entry output lent course = leb (course .put + roomFor entry output) (length lent)

@@ -2,20 +2,29 @@
 ghost use mathlib.Core.Path.{_≡_};
 ghost use Rattle.replay.specs.Run.{begun, withFrom, withPut, ended, goesOn};
 
-// Whether the run goes on, is over, or breaks off because no more can be read or written.
+// How a run goes on.
 pub enum Going {
+    // It goes on.
     On,
+    // It is over.
     Over,
+    // It breaks off: no more can be read.
     Unread,
+    // It breaks off: no more can be written.
     Unwritten,
 }
 
-// Bytes of the input wait from a place to an end, and the file ends there if they are its last. Text waits up to a place.
+// How far a run is.
 pub struct Course {
+    // Where the bytes of the input that wait start.
     pub from: usize,
+    // Where they end.
     pub to: usize,
+    // Whether the file ends with them.
     pub last: bool,
+    // Where the text that waits ends.
     pub put: usize,
+    // How the run goes on.
     pub going: Going,
 }
 

@@ -31,7 +31,7 @@ module _ (session : Session) (rooms : Rooms) (body : List ℕ) (within : Within 
   abbrev come-to : Status → Session × Rooms → Result
   come-to status left = (left, ok status)
 
-  -- the end record
+  -- the end record leaves all as it was
   pub acts-end : come-to ended (session, rooms) ≡ actedIn session rooms End body
   unfolding actedIn
   acts-end = ap (come-to ended) (sym (back session rooms within))
@@ -40,7 +40,7 @@ module _ (session : Session) (rooms : Rooms) (body : List ℕ) (within : Within 
   abbrev stored : (Session × List ℕ) × Outcome Numbered Status → Result
   stored left = ((left .0 .0, roomsOf (left .0 .1) (rooms .table) (rooms .normal) (rooms .overlay) (rooms .output)), left .1)
 
-  -- a write
+  -- a write leaves the state and the store of the chip
   pub acts-write : (address value : ℕ) {left : (Session × List ℕ) × Outcome Numbered Status}
       → left ≡ askedIn session saysOk (written (session .state, rooms .store) address value)
       → stored left ≡ actedIn session rooms (Write address value) body
@@ -49,7 +49,7 @@ module _ (session : Session) (rooms : Rooms) (body : List ℕ) (within : Within 
       let after = written (session .state, rooms .store) address value in
       ap stored is ∙ ap (come-to (listed (entryOf saysOk (after .1)))) (sym (back-chip session rooms within (after .0)))
 
-  -- some dots
+  -- dots leave the state and the store of the chip
   pub acts-dots : (count : ℕ) {left : (Session × List ℕ) × Outcome Numbered Status}
       → left ≡ askedIn session (atPosition (ran (session .state, rooms .store) count .0 .0 .at)) (ran (session .state, rooms .store) count)
       → stored left ≡ actedIn session rooms (Dots count) body
@@ -58,7 +58,7 @@ module _ (session : Session) (rooms : Rooms) (body : List ℕ) (within : Within 
       let after = ran (session .state, rooms .store) count in
       ap stored is ∙ ap (come-to (listed (entryOf (atPosition (after .0 .0 .at)) (after .1)))) (sym (back-chip session rooms within (after .0)))
 
-  -- table bytes
+  -- table bytes stand behind those that were there
   pub acts-table :
       come-to (listed saysOk) (
         counted (withCounts session (countsOf (session .counts .table + length body) (session .counts .normal) (session .counts .overlay))),
@@ -68,7 +68,7 @@ module _ (session : Session) (rooms : Rooms) (body : List ℕ) (within : Within 
   unfolding actedIn
   acts-table = ap (come-to (listed saysOk)) (sym (back-table session rooms within body))
 
-  -- a normal row
+  -- a normal row stands at the front of its room
   pub acts-normal :
       come-to (listed saysOk) (
         counted (withCounts session (countsOf (session .counts .table) (length body) (session .counts .overlay))),
@@ -78,7 +78,7 @@ module _ (session : Session) (rooms : Rooms) (body : List ℕ) (within : Within 
   unfolding actedIn
   acts-normal = ap (come-to (listed saysOk)) (sym (back-normal session rooms within body))
 
-  -- an overlay row
+  -- an overlay row stands at the front of its room
   pub acts-overlay :
       come-to (listed saysOk) (
         counted (withCounts session (countsOf (session .counts .table) (session .counts .normal) (length body))),
@@ -92,7 +92,7 @@ module _ (session : Session) (rooms : Rooms) (body : List ℕ) (within : Within 
   abbrev shown : (Session × List ℕ) × Outcome Numbered Status → Result
   shown left = ((left .0 .0, roomsOf (rooms .store) (rooms .table) (rooms .normal) (rooms .overlay) (left .0 .1)), left .1)
 
-  -- a line
+  -- a line leaves the state and the output
   pub acts-line : (y : ℕ) {left : (Session × List ℕ) × Outcome Numbered Status}
       → let held = heldIn session rooms in
       let after = drawn (requestOf (session .state) y) (lentOf (rooms .store) (held .table) (held .normal) (held .overlay)) (rooms .output) in

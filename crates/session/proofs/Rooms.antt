@@ -16,7 +16,7 @@ laid-same : (room : List ℕ) (count : ℕ) → count ≤ length room → laid r
 laid-same room count within =
     ap (λ (past : ℕ). take count room ++ drop past room) (length-take-le count room within) ∙ take-append-drop count room
 
--- so many bytes and others behind them
+-- how many bytes are there with others behind them
 count-behind : (room bytes : List ℕ) (count : ℕ) → count ≤ length room → length (take count room ++ bytes) ≡ count + length bytes
 count-behind room bytes count within =
     length-append (take count room) bytes ∙ ap (λ (front : ℕ). front + length bytes) (length-take-le count room within)
@@ -34,43 +34,47 @@ laid-anew room bytes =
     ap₂ (λ (copied : List ℕ) (past : ℕ). copied ++ drop past room) (sym (take-length bytes)) (sym (zero-add (length bytes)))
 
 module _ (session : Session) (rooms : Rooms) (within : Within session rooms) where
-  -- what is held of table and rows, put back as it was
+  -- the table bytes that are held, put back, leave the room as it was
   table-back : laid (rooms .table) (take (session .counts .table) (rooms .table)) ≡ rooms .table
   table-back = laid-same (rooms .table) (session .counts .table) (within .table-within)
 
+  -- the normal row that is held, put back, leaves the room as it was
   normal-back : laid (rooms .normal) (take (session .counts .normal) (rooms .normal)) ≡ rooms .normal
   normal-back = laid-same (rooms .normal) (session .counts .normal) (within .normal-within)
 
+  -- the overlay row that is held, put back, leaves the room as it was
   overlay-back : laid (rooms .overlay) (take (session .counts .overlay) (rooms .overlay)) ≡ rooms .overlay
   overlay-back = laid-same (rooms .overlay) (session .counts .overlay) (within .overlay-within)
 
-  -- and counted
+  -- as many table bytes are held as the session counts
   pub table-count : length (take (session .counts .table) (rooms .table)) ≡ session .counts .table
   table-count = length-take-le (session .counts .table) (rooms .table) (within .table-within)
 
+  -- as many bytes of the normal row are held as the session counts
   normal-count : length (take (session .counts .normal) (rooms .normal)) ≡ session .counts .normal
   normal-count = length-take-le (session .counts .normal) (rooms .normal) (within .normal-within)
 
+  -- as many bytes of the overlay row are held as the session counts
   overlay-count : length (take (session .counts .overlay) (rooms .overlay)) ≡ session .counts .overlay
   overlay-count = length-take-le (session .counts .overlay) (rooms .overlay) (within .overlay-within)
 
-  -- all as it was
+  -- what is held, put back, leaves session and rooms as they were
   pub back : leftIn rooms (heldIn session rooms) ≡ (session, rooms)
   back = rw (table-back, normal-back, overlay-back, table-count, normal-count, overlay-count) refl
 
-  -- with another chip
+  -- a record that changed the chip leaves its state and store, and one record more
   pub back-chip : (chip : Chip)
       → leftIn rooms (withChip (heldIn session rooms) chip)
       ≡ (counted (withState session (chip .0)), roomsOf (chip .1) (rooms .table) (rooms .normal) (rooms .overlay) (rooms .output))
   back-chip chip = rw (table-back, normal-back, overlay-back, table-count, normal-count, overlay-count) refl
 
-  -- with another output
+  -- a line leaves the state and the output, and one record more
   pub back-line : (chip : Chip) (output : List ℕ)
       → leftIn rooms (withLine (heldIn session rooms) chip output)
       ≡ (counted (withState session (chip .0)), roomsOf (chip .1) (rooms .table) (rooms .normal) (rooms .overlay) output)
   back-line chip output = rw (table-back, normal-back, overlay-back, table-count, normal-count, overlay-count) refl
 
-  -- with table bytes appended
+  -- table bytes are copied behind those that are there, and counted
   pub back-table : (bytes : List ℕ)
       → leftIn rooms (withTable (heldIn session rooms) (take (session .counts .table) (rooms .table) ++ bytes))
       ≡ (
@@ -87,7 +91,7 @@ module _ (session : Session) (rooms : Rooms) (within : Within session rooms) whe
         overlay-count,
       ) refl
 
-  -- with the normal row replaced
+  -- a normal row is copied to the front of its room, and counted
   pub back-normal : (bytes : List ℕ)
       → leftIn rooms (withNormal (heldIn session rooms) bytes)
       ≡ (
@@ -96,7 +100,7 @@ module _ (session : Session) (rooms : Rooms) (within : Within session rooms) whe
       )
   back-normal bytes = rw (laid-anew (rooms .normal) bytes, table-back, overlay-back, table-count, overlay-count) refl
 
-  -- with the overlay row replaced
+  -- an overlay row is copied to the front of its room, and counted
   pub back-overlay : (bytes : List ℕ)
       → leftIn rooms (withOverlay (heldIn session rooms) bytes)
       ≡ (

@@ -51,7 +51,7 @@ right-room : (size count : ℕ) → not (eqb size count) ≡ false → size ≡ 
 right-room size count e = eqb-true size count (not-false (eqb size count) e)
 
 module _ (session : Session) (rooms : Rooms) where
-  -- the first test passed
+  -- where the first test passes, what is held and the rooms fit
   pub fitted : verdict (stepFaults session rooms) ≡ ok tt → Fitted session rooms
   unfolding roomFaults tooMuchHeld
   fitted e =
@@ -87,7 +87,7 @@ within fit =
       overlay-within = rw (fit .overlay-long) (fit .overlay-held);
     }
 
--- and as long as it says
+-- the part that is lent as a record's body is as long as the record says
 pub body-long : (bytes : List ℕ) (place count : ℕ) → 3 + count ≤ length (drop place bytes)
     → length (take (place + 3 + count - (place + 3)) (drop (place + 3) bytes)) ≡ count
 body-long bytes place count there =
@@ -112,11 +112,11 @@ module _ (session : Session) (rooms : Rooms) (last : Bool) where
     fits (Line y) count body is long = tt
 
 module _ (session : Session) (rooms : Rooms) (bytes : List ℕ) (place : ℕ) (last : Bool) where
-  -- all as it was
+  -- session, place and rooms as they were before the call
   abbrev before : Left
   before = ((session, place), rooms)
 
-  -- the first test refuses
+  -- where the first test refuses, so does the step, and all is as it was
   pub step-refused : (refusal : Refusal) → refused (numbered refusal) ≡ verdict (stepFaults session rooms)
       → (before, refused (numbered refusal)) ≡ sessionStep session rooms bytes place last
   unfolding sessionStep
@@ -124,7 +124,7 @@ module _ (session : Session) (rooms : Rooms) (bytes : List ℕ) (place : ℕ) (l
       sym (first-holds before (afterStep session rooms bytes place last) (stepFaults session rooms) (numbered refusal)
       (first-verdict (stepFaults session rooms) (numbered refusal) (sym e)))
 
-  -- the first test passed
+  -- where the first test passes, the step is done
   step-done : verdict (stepFaults session rooms) ≡ ok tt
       → let after = afterStep session rooms bytes place last in
       sessionStep session rooms bytes place last ≡ (after .0, ok (after .1))
@@ -157,18 +157,18 @@ module _ (session : Session) (rooms : Rooms) (bytes : List ℕ) (place : ℕ) (l
   left-by step = (left-after (step .0 .1) (leftIn rooms (step .0 .0)), ok (step .1))
 
   module _ (passed : verdict (stepFaults session rooms) ≡ ok tt) where
-    -- what it found decides
+    -- what was found decides what the step leaves and answers
     step-by : (answer : RecordAt) → recordAt (judgedBy session rooms last) (drop place bytes) ≡ answer
         → sessionStep session rooms bytes place last ≡ left-by (statusBy (heldIn session rooms) (drop place bytes) answer)
     unfolding afterStep
     step-by answer is = step-done passed ∙ ap left-by (stepped-by answer (within (fitted session rooms passed)) is)
 
-    -- the bytes end within a record, and the file goes on
+    -- where the bytes end within a record and the file goes on, the step waits
     pub step-waits : recordAt (judgedBy session rooms last) (drop place bytes) ≡ More → (before, ok needsMore) ≡ sessionStep session rooms bytes place last
     step-waits is =
         sym (step-by More is ∙ ap (λ (left : Left). (left, ok needsMore)) (nothing-taken (within (fitted session rooms passed))))
 
-    -- a fault of the file
+    -- where a fault of the file was found, the step stops
     pub step-stops : (refusal : Refusal) → recordAt (judgedBy session rooms last) (drop place bytes) ≡ Refused refusal
         → (before, ok (stopped (numbered refusal))) ≡ sessionStep session rooms bytes place last
     step-stops refusal is =
@@ -176,7 +176,7 @@ module _ (session : Session) (rooms : Rooms) (bytes : List ℕ) (place : ℕ) (l
         (step-by (Refused refusal) is
         ∙ ap (λ (left : Left). (left, ok (stopped (numbered refusal)))) (nothing-taken (within (fitted session rooms passed))))
 
-    -- a record, whose body was lent so
+    -- where a record was found, the step does what the record does with its body
     pub step-acts : (which : Record) (count : ℕ) → recordAt (judgedBy session rooms last) (drop place bytes) ≡ Is which count
         → (body : List ℕ) → body ≡ bodyOf (drop place bytes)
         → {left : (Session × Rooms) × Outcome Numbered Status} → left ≡ actedIn session rooms which body

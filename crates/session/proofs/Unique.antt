@@ -13,9 +13,11 @@ use Rattle.session.specs.declared.step.Stepped.{Stepped}
 use Rattle.session.proofs.session.Session.new.Reads as new
 use Rattle.session.proofs.step.step.Reads as step
 
+-- one session alone meets the contract of `new`
 pub new-unique : OneAnswer new.Post
 new-unique = by-equation _ _
 
+-- one answer, with one session, place and rooms, meets the contract of `step`
 pub step-unique : OneOutcome
     (λ k exit. roomsOf (now (exit .1 .1 .1 .1 .0)) (now (exit .1 .1 .1 .1 .1 .0)) (now (exit .1 .1 .1 .1 .1 .1 .0)) (now (exit .1 .1 .1 .1 .1 .1 .1 .0)) (now (exit .1 .1 .1 .1 .1 .1 .1 .1 .0)))
     step.Post

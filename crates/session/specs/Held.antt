@@ -40,22 +40,22 @@ oneRecordMore held chip table normal overlay output =
       records = held .records + 1;
     }
 
--- one that changed the chip
+-- after a record that changed the chip
 abbrev pub withChip : Held → Chip → Held
 withChip held chip = oneRecordMore held chip (held .table) (held .normal) (held .overlay) (held .output)
 
--- one that changed the table
+-- after a record that changed the table
 abbrev pub withTable : Held → List ℕ → Held
 withTable held table = oneRecordMore held (held .chip) table (held .normal) (held .overlay) (held .output)
 
--- one that changed the normal row
+-- after a record that changed the normal row
 abbrev pub withNormal : Held → List ℕ → Held
 withNormal held normal = oneRecordMore held (held .chip) (held .table) normal (held .overlay) (held .output)
 
--- one that changed the overlay row
+-- after a record that changed the overlay row
 abbrev pub withOverlay : Held → List ℕ → Held
 withOverlay held overlay = oneRecordMore held (held .chip) (held .table) (held .normal) overlay (held .output)
 
--- one that asked for a line
+-- after a record that asked for a line
 abbrev pub withLine : Held → Chip → List ℕ → Held
 withLine held chip output = oneRecordMore held chip (held .table) (held .normal) (held .overlay) output

@@ -15,15 +15,15 @@ use Rattle.session.specs.Record.{entryOf, acted}
 use Rattle.session.specs.Lent.{Rooms, heldIn, leftIn}
 use Rattle.session.specs.declared.session.Session.{Session}
 
--- with this state
+-- a session with this state in place of its own
 abbrev pub withState : Session → State → Session
 withState session state = record { state = state; counts = session .counts; records = session .records }
 
--- with so many bytes of table and rows
+-- a session with so many bytes of table and rows
 abbrev pub withCounts : Session → Counts → Session
 withCounts session counts = record { state = session .state; counts = counts; records = session .records }
 
--- after one more record
+-- a session after one more record
 abbrev pub counted : Session → Session
 counted session = record { state = session .state; counts = session .counts; records = session .records + 1 }
 

@@ -41,9 +41,9 @@ heldIn session rooms =
       records = session .records;
     }
 
--- some bytes at the front of a room; those past them stay
+-- some bytes at the front of lent ones; those past them stay
 abbrev pub laid : List ℕ → List ℕ → List ℕ
-laid room bytes = bytes ++ drop (length bytes) room
+laid lent bytes = bytes ++ drop (length bytes) lent
 
 -- what is held, put into the rooms
 abbrev pub roomsWith : Rooms → Held → Rooms
@@ -65,6 +65,6 @@ sessionOf held =
       records = held .records;
     }
 
--- the two together
+-- session and rooms, with what is held put into them
 abbrev pub leftIn : Rooms → Held → Session × Rooms
 leftIn rooms held = (sessionOf held, roomsWith rooms held)

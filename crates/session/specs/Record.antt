@@ -66,8 +66,8 @@ acted held (Line y) body =
 
 -- what comes of what was found: what is held, how many bytes were taken, and what it comes to. Without a record all is as it was
 abbrev pub statusBy : Held → List ℕ → RecordAt → (Held × ℕ) × Status
-statusBy held bytes (Is which length) =
-    let after = acted held which (bodyOf bytes) in ((after .0, 3 + length), after .1)
+statusBy held bytes (Is which count) =
+    let after = acted held which (bodyOf bytes) in ((after .0, 3 + count), after .1)
 statusBy held bytes More = ((held, 0), needsMore)
 statusBy held bytes (Refused refusal) = ((held, 0), stopped (numbered refusal))
 

@@ -11,7 +11,7 @@ use Rattle.session.specs.Record.{stepped}
 use Rattle.session.specs.Lent.{Rooms, heldIn, roomsWith, sessionOf}
 use Rattle.session.specs.declared.session.Session.{Session}
 
--- 11, 5
+-- 11 by the counts, then 5 by the rooms
 abbrev pub stepFaults : Session → Rooms → List Fault
 stepFaults session rooms =
     lentFaults (session .counts)

@@ -29,9 +29,11 @@ use session_listing::entry::ListingEntry;
 use session_records::record::Record;
 use session_rooms::Counts;
 
-// The session after a record, and its answer.
+// What a record leaves and answers.
 pub struct Acted {
+    // The session after it.
     pub session: Session,
+    // What it answers.
     pub answer: StepAnswer,
 }
 

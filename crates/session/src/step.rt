@@ -10,10 +10,13 @@ use session_records::record::Context;
 use session_records::record::RecordAt;
 use session_rooms::step_check;
 
-// The session that a step hands back, the place of the next record, and the answer.
+// What a step leaves and answers.
 pub struct Stepped {
+    // The session after it.
     pub session: Session,
+    // The place of the next record.
     pub place: usize,
+    // What it answers.
     pub answer: StepAnswer,
 }
 

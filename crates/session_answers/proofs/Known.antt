@@ -41,6 +41,6 @@ back answer.More = refl
 back (answer.Stopped refusal) = ap answer.Stopped (known refusal)
 back (answer.Refused refusal) = ap answer.Refused (known refusal)
 
--- so two that say the same are the same
+-- two answers that say the same are the same
 pub step-answer-known : (answer other : StepAnswer) → stepOutcome answer ≡ stepOutcome other → answer ≡ other
 step-answer-known answer other says = sym (back answer) ∙ ap answer-of says ∙ back other

@@ -6,7 +6,7 @@ use Rattle.session_answers.specs.declared.StepAnswer.the-variants.{Liste
 use Rattle.session_answers.specs.declared.Adds.{Adds}
 use Rattle.session_answers.specs.declared.Adds.the-variants.{One, Nothing}
 
--- what it shows: its entry, nothing at the end and where it waits, the refusal where it is one
+-- what it adds to the listing: its entry, nothing at the end and where it waits, the refusal where it is one
 abbrev pub adds : StepAnswer → Adds
 adds (Listed entry) = One entry
 adds End = Nothing

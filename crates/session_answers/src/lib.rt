@@ -4,19 +4,25 @@ ghost use Rattle.session_answers.specs.Answers.{adds, over};
 use refusals::Refusal;
 use session_listing::entry::ListingEntry;
 
-// What a step answers: a record's entry in the listing, that the end record is reached, that the bytes end within a record and the file goes on, a
-// fault of the file, which stops the run, or the refusal of a call that is lent the wrong things.
+// What a step answers.
 pub enum StepAnswer {
+    // A record was run, and this is its entry in the listing.
     Listed(ListingEntry),
+    // The end record is reached.
     End,
+    // The bytes end before or within a record, and the file goes on.
     More,
+    // A fault of the file, which stops the run.
     Stopped(Refusal),
+    // The call is refused: it is lent the wrong things.
     Refused(Refusal),
 }
 
 // What an answer adds to the listing.
 pub enum Adds {
+    // One entry.
     One(ListingEntry),
+    // No text.
     Nothing,
 }
 

@@ -103,7 +103,7 @@ module _ (session : Session) (rooms : Rooms) (bytes : List ℕ) (place : ℕ) (l
   unfolding afterStep
   call-comes e = call-answered ∙ ap (λ (status : Status). (left session rooms bytes place last, ok status)) e
 
-  -- and what it leaves is ready for the next
+  -- what a call leaves is ready for the next
   pub stays-ready : let after = left session rooms bytes place last in Ready (after .0 .0) (after .1)
   unfolding afterStep
   stays-ready =
@@ -156,14 +156,14 @@ first-ready zeroed right =
       right = right;
     }
 
--- so there are calls on a new session for every file, however it is cut
+-- there are calls on a new session for every file, however it is cut
 pub calls-end : (rooms : Rooms) → Zeroed rooms → RightLengths rooms → (pieces : List (List ℕ))
     → (written : List ℕ) × Calls (sessionOf nothingHeld) rooms [] 0 pieces written
 calls-end rooms zeroed right pieces =
     let all = steps-end pieces in
     (all .0, steps-calls (all .1) (sessionOf nothingHeld) rooms [] 0 (first-ready zeroed right) (first-held zeroed) refl)
 
--- and what they list is the file's listing
+-- calls on a new session list the file's listing, however it is cut
 pub calls-give : (rooms : Rooms) → Zeroed rooms → RightLengths rooms → (pieces : List (List ℕ)) → Calls (sessionOf nothingHeld) rooms [] 0 pieces (listing (joined pieces))
 calls-give rooms zeroed right pieces =
     let all = calls-end rooms zeroed right pieces in

@@ -37,16 +37,16 @@ call-order session rooms = refl
 
 -- where the chip refuses, the refusal is listed
 module _ (held : Held) (body : List ℕ) {refusal : Numbered} where
-  -- a write
+  -- the refusal of a write
   pub write-refused : (address value : ℕ) → written (held .chip) address value .1 ≡ refused refusal
       → acted held (Write address value) body .1 ≡ listed (entry.saysRefused refusal)
   write-refused address value is = ap (λ (outcome : Outcome Numbered (Unit {0})). listed (entryOf entry.saysOk outcome)) is
 
-  -- dots
+  -- the refusal of dots
   pub dots-refused : (count : ℕ) → ran (held .chip) count .1 ≡ refused refusal → acted held (Dots count) body .1 ≡ listed (entry.saysRefused refusal)
   dots-refused count is = ap (λ (outcome : Outcome Numbered Report). listed (entryOf (atPosition (ran (held .chip) count .0 .0 .at)) outcome)) is
 
-  -- a line
+  -- the refusal of a line
   pub line-refused : (y : ℕ)
       → drawn (requestOf (held .chip .0) y) (lentOf (held .chip .1) (held .table) (held .normal) (held .overlay)) (held .output) .1 ≡ refused refusal
       → acted held (Line y) body .1 ≡ listed (entry.saysRefused refusal)

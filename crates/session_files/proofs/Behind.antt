@@ -45,6 +45,7 @@ module _ (held : Held) (bytes rest : List ℕ) where
   pub step-behind : (last : Bool) → (stepped false held bytes .1 ≡ needsMore → ⊥) → stepped last held (bytes ++ rest) ≡ stepped false held bytes
   step-behind last sure = by (step false held bytes)
     where
+      -- by what the step comes to
       by : Stepped false held bytes → stepped last held (bytes ++ rest) ≡ stepped false held bytes
       by (lists is counts s) = record-behind false last is
       by (ends is s) = record-behind false last is
@@ -52,7 +53,7 @@ module _ (held : Held) (bytes rest : List ℕ) where
       by (stops {refusal = refusal} is s) =
           by-found last held (bytes ++ rest) (found-behind (held .records) (length (held .table)) bytes rest last (Refused refusal) (λ more. impossible cc) is) ∙ sym s
 
--- so a step that doesn't wait is that of the whole file
+-- a step that doesn't wait is that of the whole file
 pub step-of-whole : (held : Held) (unread : List ℕ) (pieces : List (List ℕ)) → (stepped (none pieces) held unread .1 ≡ needsMore → ⊥)
     → stepped true held (unread ++ joined pieces) ≡ stepped (none pieces) held unread
 step-of-whole held unread [] sure = rw (append-nil unread)

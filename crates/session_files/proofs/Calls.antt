@@ -48,7 +48,7 @@ module _ (session : Session) (rooms : Rooms) (bytes : List ℕ) (place : ℕ) (l
       let both = sym is ∙ none-holds before done (stepFaults session rooms) clear in
       ap (λ (all : Left × Outcome Numbered Status). (all .0, status-of status (all .1))) both
 
-  -- it comes to the same
+  -- it comes to what the step over what is held comes to
   same-status : step .1 ≡ status
   unfolding afterStep
   same-status = ap (λ (all : Left × Status). all .1) (sym call-is)
@@ -58,12 +58,12 @@ module _ (session : Session) (rooms : Rooms) (bytes : List ℕ) (place : ℕ) (l
   unfolding afterStep
   same-held = ap (λ (all : Left × Status). heldIn (all .0 .0 .0) (all .0 .1)) call-is ∙ held-again rooms (step .0 .0)
 
-  -- its output too
+  -- it leaves the output of the step over what is held
   pub same-output : left .1 .output ≡ step .0 .0 .output
   unfolding afterStep
   same-output = ap (λ (all : Left × Status). all .0 .1 .output) call-is
 
-  -- and the next record stands where the step says
+  -- the next record stands where the step over what is held says
   pub same-place : drop (left .0 .1) bytes ≡ drop (step .0 .1) (drop place bytes)
   unfolding afterStep
   same-place = ap (λ (all : Left × Status). drop (all .0 .0 .1) bytes) call-is ∙ sym (drop-drop (step .0 .1) place bytes)

@@ -21,16 +21,16 @@ use Rattle.session_files.proofs.Behind.{step-of-whole}
 -- ---- the listing, by its first step
 
 module _ (count : ℕ) (held : Held) (bytes : List ℕ) where
-  -- it lists an entry
+  -- where it lists an entry, the text of that comes first, and the rest follows
   listing-lists : {after : Held} {taken : ℕ} {entry : EntrySays} → stepped true held bytes ≡ ((after, taken), listed entry)
       → listingFrom (suc count) held bytes ≡ text entry (after .output) ++ listingFrom count after (drop taken bytes)
   listing-lists e = rw e
 
-  -- it finds the end record
+  -- where it finds the end record, the listing is empty
   listing-ends : stepped true held bytes .1 ≡ ended → listingFrom (suc count) held bytes ≡ []
   listing-ends e = rw e
 
-  -- it finds a fault of the file
+  -- where it finds a fault of the file, the refusal is all that is listed
   listing-stops : {refusal : Numbered} → stepped true held bytes .1 ≡ stopped refusal → listingFrom (suc count) held bytes ≡ text (saysRefused refusal) (held .output)
   unfolding text
   listing-stops e = rw (e, append-nil)
@@ -103,13 +103,13 @@ module _ (held : Held) (next : (after : Held) → after .records ≡ held .recor
     ends-by needsMore e = more e
     ends-by (stopped refusal) e = (text (saysRefused refusal) (held .output), stops e)
 
-  -- the pieces, one after another
+  -- from what is held the steps end, whatever the pieces
   ends-lent : (unread : List ℕ) (pieces : List (List ℕ)) → Lists held unread pieces
   ends-lent unread [] = ends-by unread [] (λ w. absurd (never-waits true held unread refl w)) (stepped true held unread .1) refl
   ends-lent unread (piece ∷ pieces) =
       ends-by unread (piece ∷ pieces) (λ w. let rest = ends-lent (unread ++ piece) pieces in (rest .0, lends w (rest .1))) (stepped false held unread .1) refl
 
--- the records, one after another
+-- with so many records left the steps end
 ends-within : (left : ℕ) (held : Held) → left + held .records ≡ 1000000 → (unread : List ℕ) (pieces : List (List ℕ)) → Lists held unread pieces
 ends-within zero held few = ends-lent held (λ after counts below. absurd (omega arith))
 ends-within (suc left) held few = ends-lent held (λ after counts below. ends-within left after (omega arith))

@@ -39,7 +39,7 @@ module _ (rest : List ℕ) where
   behind-by count next held bytes (lacks is s) e = impossible (cc (rw s at e))
   behind-by count next held bytes (stops is s) e = impossible (cc (rw s at e))
 
-  -- so of every count
+  -- what follows lists nothing, however many records the run has
   nothing-behind : (count : ℕ) → NothingBehind rest count
   nothing-behind zero held bytes e = impossible cc
   nothing-behind (suc count) held bytes e = behind-by count (nothing-behind count) held bytes (step true held bytes) e
@@ -64,15 +64,15 @@ module _ (held : Held) (bytes : List ℕ) {which : Record} (is : recordAt (conte
   abbrev front : List ℕ
   front = take size bytes ++ take more (drop size bytes)
 
-  -- they are there
+  -- a record's bytes are there
   record-long : length (take size bytes) ≡ size
   record-long = length-take-le (3 + lengthOf bytes) bytes (found-accepted (contextOf held true) bytes is .there)
 
-  -- so the front holds the record
+  -- the front holds the record
   front-long : size ≤ length front
   front-long = rw (length-append, record-long) (omega arith)
 
-  -- and the rest stands behind it
+  -- the rest stands behind the front
   front-rest : front ++ drop more (drop size bytes) ≡ bytes
   front-rest =
       append-assoc (take size bytes) (take more (drop size bytes)) (drop more (drop size bytes))
@@ -100,7 +100,7 @@ within-by count next held bytes (ends is s) e = rw (s, front-step held bytes is 
 within-by count next held bytes (lacks is s) e = impossible (cc (rw s at e))
 within-by count next held bytes (stops is s) e = impossible (cc (rw s at e))
 
--- so of every count
+-- a run of any number of records ends within the bytes that it takes
 ends-within : (count : ℕ) → EndsWithin count
 ends-within zero held bytes e = impossible cc
 ends-within (suc count) held bytes e = within-by count (ends-within count) held bytes (step true held bytes) e

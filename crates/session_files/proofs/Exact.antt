@@ -60,7 +60,7 @@ module _ (held : Held) (bytes : List ℕ) where
   stopped-by needsMore e = impossible cc
   stopped-by (stopped refusal) e = cc
 
-  -- and wherever one holds, it stops the run
+  -- wherever a fault holds, the first of them stops the run
   pub exactly-stopped : (refusal : Numbered) → First (recordFaults (contextOf held true) bytes) refusal → stepped true held bytes .1 ≡ stopped refusal
   exactly-stopped refusal first =
       stopped-by (stepped true held bytes .1) (told-so ∙ verdict-first (recordFaults (contextOf held true) bytes) refusal first)
@@ -69,6 +69,6 @@ module _ (held : Held) (bytes : List ℕ) where
   pub found-clear : {which : Record} {count : ℕ} → recordAt (contextOf held true) bytes ≡ Is which count → Clear (recordFaults (contextOf held true) bytes)
   found-clear e = let fits = found-accepted (contextOf held true) bytes e in (fits .right, (fits .few, (fits .whole, tt)))
 
-  -- and wherever none holds, the record of these bytes is found
+  -- wherever no fault holds, the record of these bytes is found
   pub clear-found : Clear (recordFaults (contextOf held true) bytes) → recordAt (contextOf held true) bytes ≡ Is (recordOf bytes) (lengthOf bytes)
   clear-found clear = found-is (contextOf held true) bytes (clear .0) (clear .1 .1 .0) (clear .1 .0)

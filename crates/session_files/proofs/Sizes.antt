@@ -30,7 +30,7 @@ use Rattle.line_reads.proofs.Outputs.{output-length}
 use Rattle.session_files.specs.Calls.{Roomy}
 use Rattle.session_files.proofs.Step.{by-found}
 
--- at first it has them
+-- at first what is held has its sizes
 pub empty-roomy : Roomy nothingHeld
 empty-roomy =
     record {
@@ -105,10 +105,11 @@ module _ (held : Held) (roomy : Roomy held) where
           state-whole = subst HasArrays (sym (state-stays (requestOf (held .chip .0) y) lent (held .output))) (roomy .state-whole);
         }
 
--- every step keeps them
+-- every step keeps the sizes of what is held
 pub stays-roomy : (last : Bool) (held : Held) (bytes : List ℕ) → Roomy held → Roomy (stepped last held bytes .0 .0)
 stays-roomy last held bytes roomy = by (recordAt (contextOf held last) bytes) refl
   where
+    -- by what the step comes to
     by : (answer : RecordAt) → recordAt (contextOf held last) bytes ≡ answer → Roomy (stepped last held bytes .0 .0)
     by (Is which count) e = rw (by-found last held bytes e) (record-roomy held roomy last bytes which e)
     by More e = rw (by-found last held bytes e) roomy

@@ -63,6 +63,7 @@ module _ (last : Bool) (held : Held) (bytes : List ℕ) where
       let is : recordAt (contextOf held last) bytes ≡ Is which (lengthOf bytes) = e ∙ ap (Is which) (found-accepted (contextOf held last) bytes e .length-is) in
       by (does held which (bodyOf bytes)) is
     where
+      -- by what the record did
       by : Did held which (bodyOf bytes) → recordAt (contextOf held last) bytes ≡ Is which (lengthOf bytes) → Stepped
       by (did {after = after} {entry = entry} d counts) is = lists {after = after} {entry = entry} is counts (rw (by-found is, d))
       by (over end d) is = ends (rw end at is) (rw (by-found is, d))
@@ -89,13 +90,13 @@ module _ (context : Context) (bytes : List ℕ) {refusal : Refusal} (e : recordA
   fault-by (much w s m) = inr (inr (cc (found-much context bytes w s m)))
   fault-by (good w s m) = impossible (cc (found-is context bytes w s m))
 
--- its number
+-- the number of such a fault is 12, 13 or 14
 number-by : {number : ℕ} {refusal : Refusal} → Fault number refusal → (numbered refusal .number ≡ 12) ⊎ ((numbered refusal .number ≡ 13) ⊎ (numbered refusal .number ≡ 14))
 number-by (inl e) = inl (rw e)
 number-by (inr (inl e)) = inr (inl (rw e))
 number-by (inr (inr e)) = inr (inr (rw e))
 
--- its place
+-- the place of such a fault is the record's number
 place-by : {number : ℕ} {refusal : Refusal} → Fault number refusal → numbered refusal .values ≡ number ∷ []
 place-by (inl e) = rw e
 place-by (inr (inl e)) = rw e
@@ -139,6 +140,7 @@ module _ (last : Bool) (held : Held) (bytes : List ℕ) where
   pub waiting-leaves : stepped last held bytes .1 ≡ needsMore → stepped last held bytes .0 ≡ (held, 0)
   waiting-leaves e = by (step last held bytes)
     where
+      -- by what the step comes to
       by : Stepped last held bytes → stepped last held bytes .0 ≡ (held, 0)
       by (lists is counts s) = impossible cc
       by (ends is s) = impossible cc
@@ -149,6 +151,7 @@ module _ (last : Bool) (held : Held) (bytes : List ℕ) where
   pub never-waits : last ≡ true → stepped last held bytes .1 ≡ needsMore → ⊥
   never-waits whole e = by (step last held bytes)
     where
+      -- by what the step comes to
       by : Stepped last held bytes → ⊥
       by (lists is counts s) = impossible cc
       by (ends is s) = impossible cc
@@ -170,7 +173,7 @@ module _ (last : Bool) (held : Held) (bytes : List ℕ) where
     lists-by (lacks is s) = impossible cc
     lists-by (stops is s) = impossible cc
 
-    -- so of every such step
+    -- all of it is known of every step that lists an entry
     pub lists-known : Lists
     lists-known = lists-by (step last held bytes)
 
@@ -182,7 +185,7 @@ module _ (last : Bool) (held : Held) (bytes : List ℕ) where
     pub listed-takes : stepped last held bytes .0 .1 ≡ 3 + lengthOf bytes
     listed-takes = lists-known .takes
 
-    -- these bytes are there
+    -- the bytes of its record are there
     pub listed-there : 3 + lengthOf bytes ≤ length bytes
     listed-there = found-accepted (contextOf held last) bytes (lists-known .is) .there
 
@@ -194,6 +197,7 @@ module _ (last : Bool) (held : Held) (bytes : List ℕ) where
   pub ended-leaves : stepped last held bytes .1 ≡ ended → stepped last held bytes .0 .0 ≡ held
   ended-leaves e = by (step last held bytes)
     where
+      -- by what the step comes to
       by : Stepped last held bytes → stepped last held bytes .0 .0 ≡ held
       by (lists is counts s) = impossible cc
       by (ends is s) = rw s

@@ -38,7 +38,7 @@ below-power : (number : ℕ) → number < 10 ^ number
 below-power zero = omega arith
 below-power (suc number) = rw pow-suc (omega (arith, below-power number))
 
--- and below the next power
+-- a number is below ten to the power after it
 below-next : (number : ℕ) → number < 10 ^ suc number
 below-next number = rw pow-suc (omega (arith, below-power number))
 
@@ -61,11 +61,11 @@ decimal-more (suc number) large =
     ∙ ap (λ (others : List ℕ). others ++ digit (suc number % 10) ∷ [])
     (decimal-in number (suc number / 10) (tenth-below (suc number) (suc number) (below-next (suc number))))
 
--- which is one digit
+-- the last digit makes it one longer
 pub decimal-longer : (number : ℕ) → 10 ≤ number → length (decimal number) ≡ length (decimal (number / 10)) + 1
 decimal-longer number large = rw (decimal-more number large, length-append)
 
--- so many digits at most
+-- a number of at most so many digits has no more
 in-at-most : (count number : ℕ) → length (decimalIn count number) ≤ count
 in-at-most zero number = omega arith
 in-at-most (suc count) number =

@@ -15,7 +15,7 @@ use Rattle.session_listing.specs.Inner.{PartsOf}
 use Rattle.session_listing.specs.declared.entry.ListingEntry.{ListingEntry}
 use Rattle.session_listing.specs.declared.entry.ListingEntry.the-variants.{Ok, At, Line, Refused}
 
--- a number alone
+-- a space and a number is a list of one, spaced
 pub one-spaced : (number : ℕ) → 32 ∷ decimal number ≡ spaced (number ∷ [])
 one-spaced number = rw append-nil
 
@@ -24,15 +24,15 @@ module _ (word : List ℕ) (first second : ℕ) where
   abbrev made : ℕ → List ℕ
   made numbers = word ++ spaced (take numbers (first ∷ second ∷ []))
 
-  -- none
+  -- a word without a number
   pub no-number : {numbers : ℕ} → numbers ≡ 0 → word ≡ made numbers
   no-number is = rw (is, append-nil)
 
-  -- one
+  -- a word and one number
   pub one-number : {numbers : ℕ} → numbers ≡ 1 → word ++ spaced (first ∷ []) ≡ made numbers
   one-number is = rw is
 
-  -- both
+  -- a word and both numbers
   pub two-numbers : (numbers : ℕ) → (numbers ≡ 0 → ⊥) → (numbers ≡ 1 → ⊥) → (word ++ spaced (first ∷ [])) ++ spaced (second ∷ []) ≡ made numbers
   two-numbers zero some more = absurd (some refl)
   two-numbers (suc zero) some more = absurd (more refl)
@@ -41,21 +41,21 @@ module _ (word : List ℕ) (first second : ℕ) where
       ∙ ap (λ (rest : List ℕ). word ++ rest) (rw (take-nil numbers, append-nil (decimal first)))
 
 module _ {entry : ListingEntry} (count : ℕ) where
-  -- what is done
-  pub told-ok : entry ≡ Ok → PartsOf (entrySays entry) count (record { from = 0; letters = 2; numbers = 0; first = 0; second = 0; shown = 0 })
+  -- the parts of `ok`
+  pub told-ok : entry ≡ Ok → PartsOf (entrySays entry) count (record { from = 0; letters = 2; numbers = 0; first = 0; second = 0; pixels = 0 })
   told-ok is = rw is (record { says = refl; shows = refl; few = omega arith; inside = omega arith; short = omega arith })
 
-  -- a position
-  pub told-at : {x y : ℕ} → entry ≡ At x y → PartsOf (entrySays entry) count (record { from = 2; letters = 2; numbers = 2; first = x; second = y; shown = 0 })
+  -- the parts of a position
+  pub told-at : {x y : ℕ} → entry ≡ At x y → PartsOf (entrySays entry) count (record { from = 2; letters = 2; numbers = 2; first = x; second = y; pixels = 0 })
   told-at is = rw is (record { says = refl; shows = refl; few = omega arith; inside = omega arith; short = omega arith })
 
-  -- a drawn line
-  pub told-line : {y width shown : ℕ} → entry ≡ Line y width → shown ≡ min width count
-      → PartsOf (entrySays entry) count (record { from = 4; letters = 4; numbers = 1; first = y; second = 0; shown = shown })
+  -- the parts of a drawn line
+  pub told-line : {y width pixels : ℕ} → entry ≡ Line y width → pixels ≡ min width count
+      → PartsOf (entrySays entry) count (record { from = 4; letters = 4; numbers = 1; first = y; second = 0; pixels = pixels })
   told-line {width = width} is shows = rw is (record { says = refl; shows = shows; few = rw shows (min-le-right width count); inside = omega arith; short = omega arith })
 
-  -- a refusal, which has one value
+  -- the parts of a refusal, which has one value
   pub told-refused : {refusal : Refusal} {number place : ℕ} → entry ≡ Refused refusal → number ≡ refusalNumber refusal → place ≡ refusalPlace refusal
-      → PartsOf (entrySays entry) count (record { from = 8; letters = 7; numbers = 2; first = number; second = place; shown = 0 })
+      → PartsOf (entrySays entry) count (record { from = 8; letters = 7; numbers = 2; first = number; second = place; pixels = 0 })
   told-refused {refusal} is number-is place-is =
       rw is (record { says = rw (number-is, place-is, one-value refusal); shows = refl; few = omega arith; inside = omega arith; short = omega arith })

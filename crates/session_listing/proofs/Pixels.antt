@@ -20,11 +20,11 @@ pixels-append : (colours others : List ℕ) → pixels (colours ++ others) ≡ p
 pixels-append [] others = refl
 pixels-append (colour ∷ colours) others = rw (pixels-append colours others) (sym (append-assoc (ended (hex colour)) (pixels colours) (pixels others)))
 
--- one pixel more
+-- the next pixel stands behind those before it
 pub pixels-more : (colours : List ℕ) (i : ℕ) → i < length colours → pixels (take i colours) ++ ended (hex (getD colours i 0)) ≡ pixels (take (i + 1) colours)
 pixels-more colours i more = rw (add-one i, take-suc colours i 0 more, pixels-append, append-nil)
 
--- as many as are taken of a list are those taken
+-- taking as many as were taken of a list takes the same
 pub take-taken : (width : ℕ) (output : List ℕ) → take (length (take width output)) output ≡ take width output
 take-taken zero output = refl
 take-taken (suc width) [] = refl

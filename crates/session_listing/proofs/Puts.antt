@@ -15,11 +15,11 @@ sets-append : (bytes others lent : List ℕ) (place : ℕ) → sets (sets lent p
 sets-append [] others lent place = rw add-zero
 sets-append (byte ∷ bytes) others lent place = rw (add-suc, ← suc-add) (sets-append bytes others (set lent place byte) (suc place))
 
--- nothing put yet
+-- no bytes are put by leaving all as it was
 put-none : (lent : List ℕ) (place : ℕ) → place ≤ length lent → Put lent place [] lent place
 put-none lent place fits = record { stored = refl; after = sym (add-zero place); fits = fits }
 
--- one store
+-- one store puts one byte
 pub put-one : (lent : List ℕ) (place byte : ℕ) {next : ℕ} → place < length lent → next ≡ place + 1 → Put lent place (byte ∷ []) (set lent place byte) next
 put-one lent place byte inside after = record { stored = refl; after = after; fits = omega arith }
 
@@ -28,12 +28,12 @@ abbrev stores : List ℕ → ℕ → ℕ → List ℕ → List ℕ
 stores lent place count [] = lent
 stores lent place count (byte ∷ bytes) = stores (set lent (place + count) byte) place (suc count) bytes
 
--- which are stores from the first of these places on
+-- stores behind a place are stores from the first of them on
 stores-sets : (bytes lent : List ℕ) (place count : ℕ) → stores lent place count bytes ≡ sets lent (place + count) bytes
 stores-sets [] lent place count = refl
 stores-sets (byte ∷ bytes) lent place count = stores-sets bytes (set lent (place + count) byte) place (suc count) ∙ rw add-suc
 
--- stores from a place on
+-- stores one after another put their bytes
 pub put-stores : (byte : ℕ) (bytes lent : List ℕ) (place : ℕ) → place + length (byte ∷ bytes) ≤ length lent
     → Put lent place (byte ∷ bytes) (stores (set lent place byte) place 1 bytes) (place + length (byte ∷ bytes))
 put-stores byte bytes lent place fits = record { stored = stores-sets bytes (set lent place byte) place 1 ∙ rw add-one; after = refl; fits = fits }
@@ -43,11 +43,11 @@ module _ {lent bytes left : List ℕ} {place next : ℕ} (put : Put lent place b
   pub put-length : length left ≡ length lent
   put-length = rw (put .stored) (length-sets lent place bytes)
 
-  -- the same bytes, said otherwise
+  -- equal bytes are put by the same stores
   pub put-as : {others : List ℕ} → bytes ≡ others → Put lent place others left next
   put-as same = rw (← same) put
 
-  -- others behind them
+  -- bytes put behind those that are put
   pub put-then : {others last : List ℕ} {end : ℕ} → Put left next others last end → Put lent place (bytes ++ others) last end
   put-then {others} then = record {
     stored = rw (then .stored, put .stored, put .after) (sets-append bytes others lent place);
@@ -68,7 +68,7 @@ pub record Putting (bytesOf : List ℕ → List ℕ) (size : ℕ) (lent : List �
   pub put : Put lent place (bytesOf (take i items)) left next
 
 module _ {bytesOf : List ℕ → List ℕ} {size : ℕ} {lent : List ℕ} {place : ℕ} {items : List ℕ} {count : ℕ} where
-  -- before the first item
+  -- before the first turn nothing is put
   pub putting-start : {next : ℕ} → next ≡ place → bytesOf [] ≡ [] → place ≤ length lent → count ≤ length items
       → Putting bytesOf size lent place items count lent next 0
   putting-start here none fits enough = record {
@@ -80,7 +80,7 @@ module _ {bytesOf : List ℕ → List ℕ} {size : ℕ} {lent : List ℕ} {place
   }
 
   module _ {left : List ℕ} {next i : ℕ} (putting : Putting bytesOf size lent place items count left next i) where
-    -- one item on
+    -- a turn puts one item more
     pub putting-next : {bytes last : List ℕ} {end : ℕ} → i < count → Put left next bytes last end → length bytes ≡ size
         → bytesOf (take i items) ++ bytes ≡ bytesOf (take (i + 1) items) → Putting bytesOf size lent place items count last end (i + 1)
     putting-next {last = last} {end} more then size-is all = record {
@@ -91,6 +91,6 @@ module _ {bytesOf : List ℕ → List ℕ} {size : ℕ} {lent : List ℕ} {place
       put = rw (← all) (put-then (putting .put) then);
     }
 
-    -- after the last
+    -- after the last turn all items are put
     pub putting-over : count ≤ i → Put lent place (bytesOf (take count items)) left next
     putting-over over = let all : i ≡ count = omega arith in rw (← all) (putting .put)

@@ -10,7 +10,7 @@ use Rattle.session_listing.specs.Inner.{countShown, lineAnd, PartsOf}
 use Rattle.session_listing.specs.declared.parts.Parts.{Parts}
 use Rattle.session_listing.proofs.Pixels.{take-taken}
 
--- a colour's digits
+-- the six digits of a colour, one by one
 pub six-digits : (colour : ℕ) {fifth fourth third second first last : ℕ} → fifth ≡ digit (colour / 1048576 % 16) → fourth ≡ digit (colour / 65536 % 16)
     → third ≡ digit (colour / 4096 % 16) → second ≡ digit (colour / 256 % 16) → first ≡ digit (colour / 16 % 16) → last ≡ digit (colour % 16)
     → fifth ∷ fourth ∷ third ∷ second ∷ first ∷ last ∷ 10 ∷ [] ≡ ended (hex colour)
@@ -24,7 +24,7 @@ shown-length (saysAt x y) output = refl
 shown-length (saysLine y width) output = sym (length-take width output)
 shown-length (saysRefused refusal) output = refl
 
--- which are the first of the output
+-- the colours shown are the first of the output
 shown-taken : (listed : EntrySays) (output : List ℕ) → take (length (coloursShown listed output)) output ≡ coloursShown listed output
 shown-taken saysOk output = refl
 shown-taken (saysAt x y) output = refl
@@ -32,6 +32,6 @@ shown-taken (saysLine y width) output = take-taken width output
 shown-taken (saysRefused refusal) output = refl
 
 -- an entry's parts, and the colours that these show, make its text
-pub whole-text : (listed : EntrySays) (output : List ℕ) (parts : Parts) → PartsOf listed (length output) parts → lineAnd parts (take (parts .shown) output) ≡ text listed output
+pub whole-text : (listed : EntrySays) (output : List ℕ) (parts : Parts) → PartsOf listed (length output) parts → lineAnd parts (take (parts .pixels) output) ≡ text listed output
 unfolding text
 whole-text listed output parts told = rw (told .says, told .shows, shown-length listed output, shown-taken listed output)

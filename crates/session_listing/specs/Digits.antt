@@ -22,6 +22,6 @@ abbrev pub hexIn : ℕ → ℕ → List ℕ
 hexIn zero number = []
 hexIn (suc count) number = digit (number / 16 ^ count % 16) ∷ hexIn count number
 
--- a colour
+-- a colour in hex
 unfoldable pub hex : ℕ → List ℕ
 hex colour = hexIn 6 colour

@@ -35,7 +35,7 @@ countShown (saysRefused refusal) count = 0
 -- these parts are an entry's, where the output has so many colours
 pub record PartsOf (listed : EntrySays) (count : ℕ) (parts : Parts) : Type 0 where
   pub says : lineOf parts ≡ firstLine listed
-  pub shows : parts .shown ≡ countShown listed count
-  pub few : parts .shown ≤ count
+  pub shows : parts .pixels ≡ countShown listed count
+  pub few : parts .pixels ≤ count
   pub inside : parts .from + parts .letters ≤ 15
   pub short : parts .letters ≤ 7

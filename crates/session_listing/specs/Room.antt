@@ -14,7 +14,7 @@ use Rattle.session_listing.specs.declared.render.Rendered.the-variants.{
 abbrev pub roomOf : ℕ → ℕ
 roomOf colours = 32 + 7 * colours
 
--- so for the colours that an entry shows
+-- the room of an entry: that of the colours which it shows
 abbrev pub roomFor : EntrySays → List ℕ → ℕ
 roomFor listed output = roomOf (length (coloursShown listed output))
 

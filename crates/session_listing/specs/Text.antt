@@ -32,7 +32,7 @@ entrySays (Refused refusal) = saysRefused (numbered refusal)
 
 -- a line of text, ended
 abbrev pub ended : List ℕ → List ℕ
-ended text = text ++ 10 ∷ []
+ended line = line ++ 10 ∷ []
 
 -- numbers in decimal, a space before each
 abbrev pub spaced : List ℕ → List ℕ

@@ -6,15 +6,20 @@ ghost use Rattle.session_listing.specs.Text.{entrySays};
 ghost use Rattle.session_listing.specs.Inner.{allWords, PartsOf};
 use crate::entry::ListingEntry;
 
-// The line's word, by where it starts among the words and how many letters it has; how many numbers stand behind it, and which; and how many
-// pixels the entry shows.
+// A first line: its word, and the numbers behind it. And how many pixels follow.
 pub(crate) struct Parts {
+    // Where the word starts among the words.
     pub(crate) from: usize,
+    // How many letters it has.
     pub(crate) letters: usize,
+    // How many numbers stand behind it.
     pub(crate) numbers: u32,
+    // The first number.
     pub(crate) first: u32,
+    // The second number.
     pub(crate) second: u32,
-    pub(crate) shown: usize,
+    // How many pixels the entry shows.
+    pub(crate) pixels: usize,
 }
 
 // A letter of the words, which stand one behind another.
@@ -48,7 +53,7 @@ impl Parts {
                 numbers: 0,
                 first: 0,
                 second: 0,
-                shown: 0,
+                pixels: 0,
             },
             ListingEntry::At { x, y } => Self {
                 from: 2,
@@ -56,7 +61,7 @@ impl Parts {
                 numbers: 2,
                 first: x,
                 second: y,
-                shown: 0,
+                pixels: 0,
             },
             ListingEntry::Line { y, width } => Self {
                 from: 4,
@@ -64,7 +69,7 @@ impl Parts {
                 numbers: 1,
                 first: y,
                 second: 0,
-                shown: smaller(width, count),
+                pixels: smaller(width, count),
             },
             ListingEntry::Refused(refusal) => {
                 let number = refusal.number();
@@ -75,7 +80,7 @@ impl Parts {
                     numbers: 2,
                     first: number,
                     second: place,
-                    shown: 0,
+                    pixels: 0,
                 }
             }
         }

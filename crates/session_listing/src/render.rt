@@ -16,20 +16,22 @@ pub const FIRST_LINE_ROOM: usize = 32;
 // How many bytes a pixel has: six digits, and the line's end.
 pub const PIXEL_ROOM: usize = 7;
 
-// The place after the text put, or that there was no room for it.
+// How far a text was put.
 pub enum Rendered {
+    // To this place, behind its end.
     To(usize),
+    // There is no room for it, and nothing was put.
     NoRoom,
 }
 
 // A first line and the pixels that follow it.
 fn put_entry(parts: Parts, output: &[u32], lent: &mut [u8], at: usize) -> usize
-    requires { ⌜ (parts .from + parts .letters ≤ 15) × (parts .letters ≤ 7) × (parts .shown ≤ length (now output)) × (at + roomOf (parts .shown) ≤ length (now lent)) ⌝ }
-    ensures { λ r. ⌜ Put (now (lent .entry)) at (lineAnd parts (take (parts .shown) (now (output .entry)))) (now (lent .exit)) r ⌝ }
+    requires { ⌜ (parts .from + parts .letters ≤ 15) × (parts .letters ≤ 7) × (parts .pixels ≤ length (now output)) × (at + roomOf (parts .pixels) ≤ length (now lent)) ⌝ }
+    ensures { λ r. ⌜ Put (now (lent .entry)) at (lineAnd parts (take (parts .pixels) (now (output .entry)))) (now (lent .exit)) r ⌝ }
 {
     let last = put_parts(lent, at, parts);
     lent[last] = b'\n';
-    put_pixels(lent, last + 1, output, parts.shown)
+    put_pixels(lent, last + 1, output, parts.pixels)
 }
 
 // An entry's text from a place on, where there is room.
@@ -40,7 +42,7 @@ pub fn render(entry: ListingEntry, output: &[u32], text: &mut [u8], at: usize) -
     if text.len() < at {
         return Rendered::NoRoom;
     }
-    if text.len() - at < FIRST_LINE_ROOM + PIXEL_ROOM * parts.shown {
+    if text.len() - at < FIRST_LINE_ROOM + PIXEL_ROOM * parts.pixels {
         return Rendered::NoRoom;
     }
     Rendered::To(put_entry(parts, output, text, at))

@@ -8,7 +8,9 @@ use session_records::record::record_at;
 
 // Lent bytes, and a place among them.
 pub struct Reader<'a> {
+    // The bytes.
     pub bytes: &'a [u8],
+    // The place.
     pub place: usize,
 }
 

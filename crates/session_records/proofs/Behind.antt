@@ -46,11 +46,11 @@ module _ (bytes rest : List ℕ) where
       let before : at + count < length bytes = omega (arith, add-suc at count) in
       rw (number-kept at count (omega arith), List·getD-append bytes rest 0 (at + count) before)
 
-  -- so does the tag
+  -- a tag that is there stays the same
   pub tag-kept : 1 ≤ length bytes → tagOf (bytes ++ rest) ≡ tagOf bytes
   tag-kept h = List·getD-append bytes rest 0 0 h
 
-  -- and the length
+  -- a length that is there stays the same
   pub length-kept : 3 ≤ length bytes → lengthOf (bytes ++ rest) ≡ lengthOf bytes
   length-kept h = number-kept 1 2 h
 

@@ -23,7 +23,7 @@ not-by : (a b : ℕ) → (b ≤ a) ⊎ (a < b) → ltb a b ≡ not (leb b a)
 not-by a b (inl le) = rw (le-ltb a b le, le-leb b a le)
 not-by a b (inr lt) = rw (lt-ltb a b lt, lt-leb b a lt)
 
--- less is not at least
+-- a number is less than another exactly where it is not at least as large
 pub less-not : (a b : ℕ) → ltb a b ≡ not (leb b a)
 less-not a b = not-by a b (le-or-lt b a)
 

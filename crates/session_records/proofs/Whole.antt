@@ -37,7 +37,7 @@ module _ (bytes : List ℕ) (all : missing bytes ≡ false) where
     each : (unknownTag bytes ≡ false) × (wrongLength bytes ≡ false)
     each = neither (unknownTag bytes) (wrongLength bytes) (first-two .0)
 
-    -- there is such a tag
+    -- there is a record with its tag
     pub tag-known : tagOf bytes < 7
     tag-known =
         let h = whole-there in

@@ -19,7 +19,7 @@ wrongLength bytes = there bytes 3 && not (allows (tagOf bytes) (lengthOf bytes))
 abbrev pub tooManyDots : List ℕ → Bool
 tooManyDots bytes = there bytes 7 && eqb (tagOf bytes) 2 && ltb mostDots (inBody bytes 0 4)
 
--- 12
+-- 12: the tag, the length or a count of dots is wrong
 unfoldable pub wrong : List ℕ → Bool
 wrong bytes = unknownTag bytes || wrongLength bytes || tooManyDots bytes
 
@@ -31,7 +31,7 @@ tooManyRecords number bytes = there bytes 1 && leb mostRecords number
 abbrev pub tooLongTable : ℕ → List ℕ → Bool
 tooLongTable table bytes = there bytes 3 && eqb (tagOf bytes) 3 && ltb longestTable (table + lengthOf bytes)
 
--- 14
+-- 14: one record too many, or a table too long
 unfoldable pub tooMuch : Context → List ℕ → Bool
 tooMuch context bytes = tooManyRecords (context .number) bytes || tooLongTable (context .table) bytes
 

@@ -8,21 +8,21 @@ use Rattle.session_records.specs.declared.tags.Lengths.{Lengths}
 
 -- one length alone
 abbrev pub just : ℕ → Lengths
-just length = record { least = length; most = length }
+just count = record { least = count; most = count }
 
 -- every length up to one
 abbrev pub upTo : ℕ → Lengths
-upTo length = record { least = 0; most = length }
+upTo count = record { least = 0; most = count }
 
 -- the bytes of the longest normal row
 abbrev pub longestNormal : ℕ
 longestNormal = 8192
 
--- of the longest overlay row
+-- the bytes of the longest overlay row
 abbrev pub longestOverlay : ℕ
 longestOverlay = 2048
 
--- of the longest table, all records of it together
+-- the bytes of the longest table, all records of it together
 abbrev pub longestTable : ℕ
 longestTable = 65536
 
@@ -38,7 +38,7 @@ mostRecords = 1000000
 abbrev pub allowed : List Lengths
 allowed = just 0 ∷ just 8 ∷ just 4 ∷ upTo 65535 ∷ upTo longestNormal ∷ upTo longestOverlay ∷ just 2 ∷ []
 
--- there is such a tag
+-- there is a record with this tag
 abbrev pub known : ℕ → Bool
 known tag = ltb tag (length allowed)
 
@@ -48,4 +48,4 @@ lengthsOf tag = getD allowed tag (just 0)
 
 -- a tag allows a length
 unfoldable pub allows : ℕ → ℕ → Bool
-allows tag length = leb (lengthsOf tag .least) length && leb length (lengthsOf tag .most)
+allows tag count = leb (lengthsOf tag .least) count && leb count (lengthsOf tag .most)

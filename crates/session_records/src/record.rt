@@ -13,26 +13,39 @@ use refusals::Refusal;
 
 // A record, with the numbers in its body. The bytes of a table or a row stay where they are.
 pub enum Record {
+    // The end of the run.
     End,
+    // A write of a value to an address.
     Write { address: u32, value: u32 },
+    // So many dots.
     Dots(u32),
+    // Bytes of the ID table, behind those that are there.
     Table,
+    // A normal row.
     Normal,
+    // An overlay row.
     Overlay,
+    // The line at this y.
     Line(u32),
 }
 
-// What a record is judged by besides its bytes: its number, how many table bytes stand before it, and whether the file ends with the bytes that are lent.
+// What a record is judged by besides its bytes.
 pub struct Context {
+    // Its number: how many records stand before it.
     pub number: u32,
+    // How many table bytes stand before it.
     pub table: usize,
+    // Whether the file ends with the bytes that are lent.
     pub last: bool,
 }
 
-// What stands at a place: a record whose body has so many bytes, the beginning of one, or a fault.
+// What stands at a place.
 pub enum RecordAt {
+    // A record, whose body has so many bytes.
     Is { record: Record, length: usize },
+    // The beginning of one: the bytes end, and the file goes on.
     More,
+    // A fault of the file.
     Refused(Refusal),
 }
 

@@ -18,9 +18,9 @@ longestLine = 2048
 unfoldable pub tooMuchHeld : ℕ → ℕ → ℕ → Bool
 tooMuchHeld table normal overlay = ltb longestTable table || ltb longestNormal normal || ltb longestOverlay overlay
 
--- a room has another length
+-- a room is lent with another length than wanted
 abbrev pub wrongRoom : ℕ → ℕ → Bool
-wrongRoom length count = not (eqb length count)
+wrongRoom lent wanted = not (eqb lent wanted)
 
 -- 5 at the lowest place, by the lengths of store, table, rows and output
 unfoldable pub roomFaults : ℕ → ℕ → ℕ → ℕ → ℕ → List Fault
@@ -32,7 +32,7 @@ roomFaults store table normal overlay output =
     ∷ fault OutputLength (wrongRoom output longestLine)
     ∷ []
 
--- 11, 5
+-- 11 by the counts, then 5 by the rooms
 abbrev pub lentFaults : Counts → ℕ → ℕ → ℕ → ℕ → ℕ → List Fault
 lentFaults counts store table normal overlay output =
     fault BadState (tooMuchHeld (counts .table) (counts .normal) (counts .overlay)) ∷ roomFaults store table normal overlay output

@@ -4,9 +4,11 @@ use native.Mathlib.Omega.{arith}
 use Rattle.replay.proofs.run_arguments.Statement.{statement}
 use Rattle.replay.proofs.run_arguments.Tie as tie
 
+-- before each turn the next argument is one of them or past the last
 abbrev Inv-loop : tie.InvT-loop
 Inv-loop count number₀ number = Unit {0}
 
+-- how many arguments are left
 abbrev μ-loop : tie.MeasureT-loop
 μ-loop count number₀ number = count - number
 

@@ -61,13 +61,15 @@ use Rattle.session_reader.proofs.next as next
 use Rattle.session_reader.proofs.next.Code as code
 use Rattle.session_reader.proofs.next.Statement as stated
 
--- the types of the struct and of the context, over the signature's lifetimes
+-- the struct's type, over the signature's lifetimes
 abbrev B : Lfts 1 → RattleType
 B κs = T.the-row (namedLft 1 0 tt κs)
 
+-- the context's type
 abbrev K : Lfts 1 → RattleType
 K κs = N.the-row
 
+-- neither parameter is had any more at exit
 abbrev stayed : Stays (next.ended .signature .params) (next.ended .kept)
 stayed = (stay-dropped (plain B) yes, (stay-dropped (plain K) yes, tt))
 
@@ -77,32 +79,39 @@ module _ {M : Type 1} (𝓤 : URA M) (H : Heap 𝓤) (A : Atoms 𝓤) (mem : Mem
   RecordAtContract = tripleOf 𝓤 H A record-at.signature (record-at.spec 𝓤 H A mem run)
 
 module _ {M : Type 1} (𝓤 : URA M) (H : Heap 𝓤) (A : Atoms 𝓤) (W : Given 𝓤 H A) (mem : Memory → SProp 𝓤) (run : Routine → Fun 𝓤) (κ : Lft) (q : Share) (d : Reader) (context : Context) where
-  -- the machine values of the struct, of the context and of the slice
+  -- the machine value of the struct
   abbrev mach : Val
   mach = T′.lowered d
 
+  -- the machine value of the context
   abbrev k : Val
   k = N′.lowered context
 
+  -- the machine value of the slice
   abbrev v : Val
   v = sliceVal (d .bytes .ptr) (length (d .bytes .now))
 
+  -- what stands at the reader's place
   abbrev answer : RecordAt
   answer = recordAt context (dropped (d .place) (now (d .bytes)))
 
+  -- the machine values that are passed
   abbrev at : Vals next.signature (κ, tt)
   at = (mach ∷ [], (k ∷ [], tt))
 
+  -- what holds of the result by the contract
   abbrev Post : Val → SProp 𝓤
   Post = walkOf 𝓤 H A next.ended stayed (next.clauses 𝓤 H A mem run) .post (((κ, tt), (q, tt), tt, (d, (context, tt)), at), tt)
 
-  -- the struct's type and laws, and d's fields' values
+  -- the struct's type, as it is declared
   abbrev D : Declared
   D = T.the-type (namedLft 1 0 tt (κ, tt))
 
+  -- the laws of that type
   abbrev L : LL.Laws D
   L = T′.the-laws (namedLft 1 0 tt (κ, tt))
 
+  -- the values of the struct's fields
   abbrev vd : Values (D .parts)
   vd = (d .bytes, (d .place, tt))
 
@@ -110,6 +119,7 @@ module _ {M : Type 1} (𝓤 : URA M) (H : Heap 𝓤) (A : Atoms 𝓤) (W : Given
   abbrev passed : Vals record-at.signature (κ, tt)
   passed = (v ∷ [], (vint w64 (d .place) ∷ [], (k ∷ [], tt)))
 
+  -- the call of `record_at`
   abbrev to : RecordAtContract 𝓤 H A mem run .Ghost
   to = (((κ, tt), (q, tt), tt, (d .bytes, (d .place, (context, tt))), passed), tt)
 
@@ -127,6 +137,7 @@ module _ {M : Type 1} (𝓤 : URA M) (H : Heap 𝓤) (A : Atoms 𝓤) (W : Given
   said : (r : RecordAt) → ent 𝓤 (ensured 𝓤 H A record-at.ended (record-at.clauses 𝓤 H A mem run) (κ, tt) (d .bytes, (d .place, (context, tt))) tt r) (fact 𝓤 (r ≡ answer))
   said r = exE 𝓤 _ (λ ws. snd∗ 𝓤 (sem 𝓤 H A (lasts record-at.ended (κ, tt) (d .bytes, (d .place, (context, tt))) ws)) (fact 𝓤 (r ≡ answer)))
 
+  -- with the result and the token at hand, the contract holds
   exits : (r : RecordAt) (u : Val) → r ≡ answer → ent 𝓤 (⋆ 𝓤 H A (‵ (S.the-row .own r (u ∷ [])) ∷ (‵ (flft κ q) ⊛ ‵ ftrue) ∷ [])) (Post u)
   exits r u e =
       qed W (‵ (S.the-row .own r (u ∷ [])) ∷ (‵ (flft κ q) ⊛ ‵ ftrue) ∷ []) ∵
@@ -134,6 +145,7 @@ module _ {M : Type 1} (𝓤 : URA M) (H : Heap 𝓤) (A : Atoms 𝓤) (W : Given
       move ! (1 ∷ []) $ frame ! $ nothing ! $ nothing ! $ fjoin ! $ nothing ! $ fjoin ! $ frame ! $ done !
 
   module _ (C : Calls 𝓤 H) (Λ : Loops 𝓤 H) (fm : FmC 𝓤 H (W .laws) C) (known : Triple 𝓤 (C #record-at) (RecordAtContract 𝓤 H A mem run)) where
+    -- from what is owned at entry the code runs to what the contract says
     walk : Holds (hasTy (T′.mir (named 0)) mach) × WT mach → Holds (hasTy N′.mir k) × WT k → ent 𝓤 (onEntry 𝓤 H A next.signature (κ, tt) (q, tt) (d, (context, tt)) at) (WpFn 𝓤 H C Λ code.function (mach ∷ k ∷ []) Post)
     walk wt wk =
         qed W (raw (onEntry 𝓤 H A next.signature (κ, tt) (q, tt) (d, (context, tt)) at) ∷ []) ∵ enter ! C Λ code.function (mach ∷ k ∷ []) _ $
@@ -151,6 +163,7 @@ module _ {M : Type 1} (𝓤 : URA M) (H : Heap 𝓤) (A : Atoms 𝓤) (W : Given
         move ! (10 ∷ 11 ∷ []) $ free1 ! $ move ! (8 ∷ 9 ∷ []) $ free1 ! $ move ! (6 ∷ 7 ∷ []) $ free1 ! $ move ! (4 ∷ 5 ∷ []) $ free1 ! $ move ! (2 ∷ 3 ∷ []) $ free1 ! $ free0 ! $ by ! (exits r u e))))))))))
 
 module _ {M : Type 1} (𝓤 : URA M) (H : Heap 𝓤) (A : Atoms 𝓤) (W : Given 𝓤 H A) (mem : Memory → SProp 𝓤) (run : Routine → Fun 𝓤) where
+  -- the code runs so from every entry
   next-walks : (C : Calls 𝓤 H) (Λ : Loops 𝓤 H) → FmC 𝓤 H (W .laws) C → Triple 𝓤 (C #record-at) (RecordAtContract 𝓤 H A mem run)
       → Walks 𝓤 H A next.ended stayed (WpFn 𝓤 H C Λ code.function) (next.clauses 𝓤 H A mem run)
   next-walks C Λ fm known = walked 𝓤 H A next.ended stayed (next.clauses 𝓤 H A mem run) (WpFn 𝓤 H C Λ code.function)
@@ -160,6 +173,7 @@ module _ {M : Type 1} (𝓤 : URA M) (H : Heap 𝓤) (A : Atoms 𝓤) (W : Given
       (LL.lawful (T.the-type (namedLft 1 0 tt κs)) (T′.the-laws (namedLft 1 0 tt κs)) 𝓤 H A W .typed (a .0) _ (are .0) .0)
       (LL.lawful N.the-type N′.the-laws 𝓤 H A W .typed (a .1 .0) _ (are .1 .0) .0)))
 
+-- the code meets the contract, where `record_at` meets its own
 next-meets : {M : Type 1} (𝓤 : URA M) (H : Heap 𝓤) (A : Atoms 𝓤) (W : Given 𝓤 H A) (mem : Memory → SProp 𝓤) (run : Routine → Fun 𝓤) (𝓣 : Tables 𝓤 H)
     → Triple 𝓤 (𝓣 .C #record-at) (RecordAtContract 𝓤 H A mem run)
     → Meets 𝓤 H A next.signature (WpFn 𝓤 H (𝓣 .C) (𝓣 .Λ) code.function) (next.spec 𝓤 H A mem run)

@@ -65,24 +65,28 @@ use Rattle.session_reader.proofs.read.Statement as stated
 abbrev B : Lfts 1 → RattleType
 B κs = T.the-row (namedLft 1 0 tt κs)
 
--- the slice, the place and the context, as the signature has them
+-- the slice, as the signature has it
 abbrev slice : Slot 1
 slice = shrSliceOf (0 ∷ []) tt (plain (λ _. u8))
 
+-- the place, as the signature has it
 abbrev number : Slot 1
 number = plain (λ _. usize)
 
+-- the context, as the signature has it
 abbrev judging : Slot 1
 judging = plain (λ _. N.the-row)
 
+-- no parameter is had any more at exit
 abbrev stayed : Stays (read.ended .signature .params) (read.ended .kept)
 stayed = (stay-dropped slice yes, (stay-dropped number yes, (stay-dropped judging yes, tt)))
 
 module _ {M : Type 1} (𝓤 : URA M) (H : Heap 𝓤) (A : Atoms 𝓤) (mem : Memory → SProp 𝓤) (run : Routine → Fun 𝓤) where
-  -- the contracts that the proof cites
+  -- the contract of `reader_at`
   abbrev ReaderAt : Contract 𝓤
   ReaderAt = tripleOf 𝓤 H A reader-at.signature (reader-at.spec 𝓤 H A mem run)
 
+  -- the contract of `next`
   abbrev Next : Contract 𝓤
   Next = tripleOf 𝓤 H A next.signature (next.spec 𝓤 H A mem run)
 
@@ -100,13 +104,15 @@ same context bytes place r e =
     ap (λ (x : RefT (List ℕ)). recordAt context (dropped (r .place) (now x))) (e .0) ∙ ap (λ (n : ℕ). recordAt context (dropped n (now bytes))) (e .1)
 
 module _ {M : Type 1} (𝓤 : URA M) (H : Heap 𝓤) (A : Atoms 𝓤) (W : Given 𝓤 H A) (mem : Memory → SProp 𝓤) (run : Routine → Fun 𝓤) (κ : Lft) (q : Share) (bytes : RefT (List ℕ)) (place : ℕ) (ok : place < 2 ^ 64) (context : Context) where
-  -- the machine values of the slice and of the context
+  -- the machine value of the slice
   abbrev v : Val
   v = sliceVal (bytes .ptr) (length (bytes .now))
 
+  -- the machine value of the context
   abbrev k : Val
   k = N′.lowered context
 
+  -- the machine values that are passed
   abbrev at : Vals read.signature (κ, tt)
   at = (v ∷ [], (vint w64 place ∷ [], (k ∷ [], tt)))
 
@@ -114,6 +120,7 @@ module _ {M : Type 1} (𝓤 : URA M) (H : Heap 𝓤) (A : Atoms 𝓤) (W : Given
   abbrev αᵉ : NamedLft
   αᵉ = record { mir = erased; lft = κ }
 
+  -- what holds of the result by the contract
   abbrev Post : Val → SProp 𝓤
   Post = walkOf 𝓤 H A read.ended stayed (read.clauses 𝓤 H A mem run) .post (((κ, tt), (q, tt), tt, (bytes, (place, (context, tt))), at), tt)
 
@@ -121,13 +128,15 @@ module _ {M : Type 1} (𝓤 : URA M) (H : Heap 𝓤) (A : Atoms 𝓤) (W : Given
   abbrev Own : Fml
   Own = owns (N.the-row ∷ []) (context, tt) (k ∷ [], tt)
 
-  -- the call of `reader_at`: what it is passed, what it asks, and what is known of its result
+  -- what `reader_at` is passed
   abbrev passed : Vals reader-at.signature (κ, tt)
   passed = (v ∷ [], (vint w64 place ∷ [], tt))
 
+  -- the call of `reader_at`
   abbrev to-made : ReaderAt 𝓤 H A mem run .Ghost
   to-made = (((κ, tt), (q, tt), tt, (bytes, (place, tt)), passed), tt)
 
+  -- what the parameters own is what `reader_at` asks, and what the context owns stays
   goes-made : ent 𝓤 (onEntry 𝓤 H A read.signature (κ, tt) (q, tt) (bytes, (place, (context, tt))) at) (sep 𝓤 (ReaderAt 𝓤 H A mem run .pre to-made) (sem 𝓤 H A Own))
   goes-made =
       qed W ((‵ (flft κ q) ⊛ ‵ ftrue) ∷ ‵ (owns (ShrSlice (named 0) κ u8 ∷ usize ∷ N.the-row ∷ []) (bytes, (place, (context, tt))) at) ∷ []) ∵
@@ -136,6 +145,7 @@ module _ {M : Type 1} (𝓤 : URA M) (H : Heap 𝓤) (A : Atoms 𝓤) (W : Given
       nothing ! $ move ! (1 ∷ 0 ∷ []) $ fjoin ! $ move ! (2 ∷ 0 ∷ []) $ fjoin ! $
       move ! (2 ∷ 0 ∷ []) $ use2 W (raw (ReaderAt 𝓤 H A mem run .pre to-made)) (qed W ((‵ (flft κ q) ⊛ ‵ ftrue) ∷ ‵ (owns (ShrSlice (named 0) κ u8 ∷ usize ∷ []) (bytes, (place, tt)) passed) ∷ []) ∵ join ! $ frame ! $ done !) $ frame ! $ done !
 
+  -- the reader that comes back holds these bytes and this place
   made-said : (r : Reader) → ent 𝓤 (ensured 𝓤 H A reader-at.ended (reader-at.clauses 𝓤 H A mem run) (κ, tt) (bytes, (place, tt)) tt r) (fact 𝓤 (Made bytes place r))
   made-said r = exE 𝓤 _ (λ ws. snd∗ 𝓤 (sem 𝓤 H A (lasts reader-at.ended (κ, tt) (bytes, (place, tt)) ws)) (fact 𝓤 (Made bytes place r)))
 
@@ -143,13 +153,16 @@ module _ {M : Type 1} (𝓤 : URA M) (H : Heap 𝓤) (A : Atoms 𝓤) (W : Given
   abbrev to-next : Reader → Val → Next 𝓤 H A mem run .Ghost
   to-next r u = (((κ, tt), (q, tt), tt, (r, (context, tt)), (u ∷ [], (k ∷ [], tt))), tt)
 
+  -- what the reader and the context own is what `next` asks
   goes-next : (r : Reader) (u : Val) → ent 𝓤 (⋆ 𝓤 H A (‵ (B (κ, tt) .own r (u ∷ [])) ∷ (‵ (flft κ q) ⊛ ‵ ftrue) ∷ ‵ Own ∷ [])) (Next 𝓤 H A mem run .pre (to-next r u))
   goes-next r u =
       qed W (‵ (B (κ, tt) .own r (u ∷ [])) ∷ (‵ (flft κ q) ⊛ ‵ ftrue) ∷ ‵ Own ∷ []) ∵ move ! (0 ∷ 2 ∷ []) $ fjoin ! $ move ! (1 ∷ 0 ∷ []) $ join ! $ frame ! $ done !
 
+  -- the answer that comes back is what the reader finds
   next-said : (r : Reader) (t : RecordAt) → ent 𝓤 (ensured 𝓤 H A next.ended (next.clauses 𝓤 H A mem run) (κ, tt) (r, (context, tt)) tt t) (fact 𝓤 (t ≡ foundBy context r))
   next-said r t = exE 𝓤 _ (λ ws. snd∗ 𝓤 (sem 𝓤 H A (lasts next.ended (κ, tt) (r, (context, tt)) ws)) (fact 𝓤 (t ≡ foundBy context r)))
 
+  -- with the result and the token at hand, the contract holds
   exits : (t : RecordAt) (u : Val) → t ≡ recordAt context (dropped place (now bytes)) → ent 𝓤 (⋆ 𝓤 H A (‵ (S.the-row .own t (u ∷ [])) ∷ (‵ (flft κ q) ⊛ ‵ ftrue) ∷ [])) (Post u)
   exits t u e =
       qed W (‵ (S.the-row .own t (u ∷ [])) ∷ (‵ (flft κ q) ⊛ ‵ ftrue) ∷ []) ∵
@@ -157,6 +170,7 @@ module _ {M : Type 1} (𝓤 : URA M) (H : Heap 𝓤) (A : Atoms 𝓤) (W : Given
       move ! (1 ∷ []) $ frame ! $ nothing ! $ nothing ! $ fjoin ! $ nothing ! $ fjoin ! $ nothing ! $ fjoin ! $ frame ! $ done !
 
   module _ (C : Calls 𝓤 H) (Λ : Loops 𝓤 H) (fm : FmC 𝓤 H (W .laws) C) (known-made : Triple 𝓤 (C #reader-at) (ReaderAt 𝓤 H A mem run)) (known-next : Triple 𝓤 (C #next) (Next 𝓤 H A mem run)) where
+    -- from what is owned at entry the code runs to what the contract says
     walk : Is (ShrSlice (named 0) κ u8) bytes (v ∷ []) → Holds (hasTy N′.mir k) × WT k → ent 𝓤 (onEntry 𝓤 H A read.signature (κ, tt) (q, tt) (bytes, (place, (context, tt))) at) (WpFn 𝓤 H C Λ code.function (v ∷ vint w64 place ∷ k ∷ []) Post)
     walk p wk =
         qed W (raw (onEntry 𝓤 H A read.signature (κ, tt) (q, tt) (bytes, (place, (context, tt))) at) ∷ []) ∵ enter ! C Λ code.function (v ∷ vint w64 place ∷ k ∷ []) _ $
@@ -181,6 +195,7 @@ module _ {M : Type 1} (𝓤 : URA M) (H : Heap 𝓤) (A : Atoms 𝓤) (W : Given
         by ! (exits t u′ (e′ ∙ same context bytes place r e)))))))))))))))
 
 module _ {M : Type 1} (𝓤 : URA M) (H : Heap 𝓤) (A : Atoms 𝓤) (W : Given 𝓤 H A) (mem : Memory → SProp 𝓤) (run : Routine → Fun 𝓤) where
+  -- the code runs so from every entry
   read-walks : (C : Calls 𝓤 H) (Λ : Loops 𝓤 H) → FmC 𝓤 H (W .laws) C → Triple 𝓤 (C #reader-at) (ReaderAt 𝓤 H A mem run) → Triple 𝓤 (C #next) (Next 𝓤 H A mem run)
       → Walks 𝓤 H A read.ended stayed (WpFn 𝓤 H C Λ code.function) (read.clauses 𝓤 H A mem run)
   read-walks C Λ fm known-made known-next = walked 𝓤 H A read.ended stayed (read.clauses 𝓤 H A mem run) (WpFn 𝓤 H C Λ code.function)
@@ -188,6 +203,7 @@ module _ {M : Type 1} (𝓤 : URA M) (H : Heap 𝓤) (A : Atoms 𝓤) (W : Given
       (λ κs qs bounds a g are. via 𝓤 _ (fst∗ 𝓤 _ (emp 𝓤)) (walk 𝓤 H A W mem run (κs .0) (qs .0) (a .0) (a .1 .0) (are .1 .0 .1) (a .1 .1 .0) C Λ fm known-made known-next (are .0)
       (LL.lawful N.the-type N′.the-laws 𝓤 H A W .typed (a .1 .1 .0) _ (are .1 .1 .0) .0)))
 
+-- the code meets the contract, where `reader_at` and `next` meet theirs
 read-meets : {M : Type 1} (𝓤 : URA M) (H : Heap 𝓤) (A : Atoms 𝓤) (W : Given 𝓤 H A) (mem : Memory → SProp 𝓤) (run : Routine → Fun 𝓤) (𝓣 : Tables 𝓤 H)
     → Triple 𝓤 (𝓣 .C #reader-at) (ReaderAt 𝓤 H A mem run) → Triple 𝓤 (𝓣 .C #next) (Next 𝓤 H A mem run)
     → Meets 𝓤 H A read.signature (WpFn 𝓤 H (𝓣 .C) (𝓣 .Λ) code.function) (read.spec 𝓤 H A mem run)

@@ -41,17 +41,20 @@ use Rattle.session_reader.proofs.reader_at as reader-at
 use Rattle.session_reader.proofs.reader_at.Code as code
 use Rattle.session_reader.proofs.reader_at.Statement as stated
 
--- the slice and the place, as the signature has them
+-- the slice, as the signature has it
 abbrev slice : Slot 1
 slice = shrSliceOf (0 ∷ []) tt (plain (λ _. u8))
 
+-- the place, as the signature has it
 abbrev number : Slot 1
 number = plain (λ _. usize)
 
+-- neither parameter is had any more at exit
 abbrev stayed : Stays (reader-at.ended .signature .params) (reader-at.ended .kept)
 stayed = (stay-dropped slice yes, (stay-dropped number yes, tt))
 
 module _ {M : Type 1} (𝓤 : URA M) (H : Heap 𝓤) (A : Atoms 𝓤) (W : Given 𝓤 H A) (mem : Memory → SProp 𝓤) (run : Routine → Fun 𝓤) (κ : Lft) (q : Share) (bytes : RefT (List ℕ)) (place : ℕ) (ok : place < 2 ^ 64) where
+  -- the signature's lifetime
   abbrev α : NamedLft
   α = namedLft 1 0 tt (κ, tt)
 
@@ -59,15 +62,19 @@ module _ {M : Type 1} (𝓤 : URA M) (H : Heap 𝓤) (A : Atoms 𝓤) (W : Given
   abbrev v : Val
   v = sliceVal (bytes .ptr) (length (bytes .now))
 
+  -- the reader that is made
   abbrev made : Reader
   made = record { bytes = bytes; place = place }
 
+  -- the machine values that are passed
   abbrev at : Vals reader-at.signature (κ, tt)
   at = (v ∷ [], (vint w64 place ∷ [], tt))
 
+  -- what holds of the result by the contract
   abbrev Post : Val → SProp 𝓤
   Post = walkOf 𝓤 H A reader-at.ended stayed (reader-at.clauses 𝓤 H A mem run) .post (((κ, tt), (q, tt), tt, (bytes, (place, tt)), at), tt)
 
+  -- with what is owned at entry, the contract holds of the reader that is made
   exits : ent 𝓤 (onEntry 𝓤 H A reader-at.signature (κ, tt) (q, tt) (bytes, (place, tt)) at) (Post (T′.lowered made))
   exits =
       qed W ((‵ (flft κ q) ⊛ ‵ ftrue) ∷ ‵ (owns (ShrSlice (named 0) κ u8 ∷ usize ∷ []) (bytes, (place, tt)) at) ∷ []) ∵
@@ -77,6 +84,7 @@ module _ {M : Type 1} (𝓤 : URA M) (H : Heap 𝓤) (A : Atoms 𝓤) (W : Given
       by ! (own-shut 𝓤 H A W (T.the-type α) (T′.the-laws α) (bytes, (place, tt)))
 
   module _ (C : Calls 𝓤 H) (Λ : Loops 𝓤 H) where
+    -- from what is owned at entry the code runs to what the contract says
     walk : Is (ShrSlice (named 0) κ u8) bytes (v ∷ []) → ent 𝓤 (onEntry 𝓤 H A reader-at.signature (κ, tt) (q, tt) (bytes, (place, tt)) at) (WpFn 𝓤 H C Λ code.function (v ∷ vint w64 place ∷ []) Post)
     walk p =
         qed W (raw (onEntry 𝓤 H A reader-at.signature (κ, tt) (q, tt) (bytes, (place, tt)) at) ∷ []) ∵ enter ! C Λ code.function (v ∷ vint w64 place ∷ []) _ $
@@ -85,10 +93,12 @@ module _ {M : Type 1} (𝓤 : URA M) (H : Heap 𝓤) (A : Atoms 𝓤) (W : Given
         returns ! (look ! 4 refl) $ forget ! 0 refl $ forget ! 2 refl $ forget ! 4 refl $ move ! (4 ∷ 5 ∷ []) $ free1 ! $ move ! (2 ∷ 3 ∷ []) $ free1 ! $ free1 ! $ free0 ! $ by ! exits)))
 
 module _ {M : Type 1} (𝓤 : URA M) (H : Heap 𝓤) (A : Atoms 𝓤) (W : Given 𝓤 H A) (mem : Memory → SProp 𝓤) (run : Routine → Fun 𝓤) where
+  -- the code runs so from every entry
   reader-at-walks : (C : Calls 𝓤 H) (Λ : Loops 𝓤 H) → Walks 𝓤 H A reader-at.ended stayed (WpFn 𝓤 H C Λ code.function) (reader-at.clauses 𝓤 H A mem run)
   reader-at-walks C Λ = walked 𝓤 H A reader-at.ended stayed (reader-at.clauses 𝓤 H A mem run) (WpFn 𝓤 H C Λ code.function) (λ κs. (slice-vals, (uint-vals w64, tt))) (λ κs. (shr-slice-tells (named 0) (κs .0) u8, (uint-tells w64, tt)))
       (λ κs qs bounds a g are. via 𝓤 _ (fst∗ 𝓤 _ (emp 𝓤)) (walk 𝓤 H A W mem run (κs .0) (qs .0) (a .0) (a .1 .0) (are .1 .0 .1) C Λ (are .0)))
 
+-- the code meets the contract
 reader-at-meets : {M : Type 1} (𝓤 : URA M) (H : Heap 𝓤) (A : Atoms 𝓤) → Given 𝓤 H A → (mem : Memory → SProp 𝓤) (run : Routine → Fun 𝓤) (𝓣 : Tables 𝓤 H)
     → Meets 𝓤 H A reader-at.signature (WpFn 𝓤 H (𝓣 .C) (𝓣 .Λ) code.function) (reader-at.spec 𝓤 H A mem run)
 reader-at-meets 𝓤 H A W mem run 𝓣 = walk-meets 𝓤 H A reader-at.ended stayed W (goes-dropped 𝓤 H A W 1 slice yes (λ κs x f. refl), (goes-dropped 𝓤 H A W 1 number yes (λ κs x f. refl), tt)) (reader-at.clauses 𝓤 H A mem run) (WpFn 𝓤 H (𝓣 .C) (𝓣 .Λ) code.function) (WpFn-mono 𝓤 H (W .laws) 𝓣 code.function) (reader-at-walks 𝓤 H A W mem run (𝓣 .C) (𝓣 .Λ))

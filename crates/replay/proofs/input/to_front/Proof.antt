@@ -6,9 +6,11 @@ use lib.ListN.{length}
 use Rattle.replay.proofs.input.to_front.Statement.{statement}
 use Rattle.replay.proofs.input.to_front.Tie as tie
 
+-- before each turn both places are within the input
 abbrev Inv-loop : tie.InvT-loop
 Inv-loop input₀ from to next₀ count₀ input next count = (length input ≡ length input₀) × (count ≤ next) × (count ≤ to)
 
+-- how many bytes are left
 abbrev μ-loop : tie.MeasureT-loop
 μ-loop input₀ from to next₀ count₀ input next count = to - next
 

@@ -9,6 +9,7 @@ use Rattle.replay.specs.declared.course.Course.{Course}
 use Rattle.replay.proofs.run.steps.Statement.{statement}
 use Rattle.replay.proofs.run.steps.Tie as tie
 
+-- before each turn the rooms have their lengths, and the bytes that wait are within the input
 abbrev Inv-loop : tie.InvT-loop
 Inv-loop file input₀ text₀ store₀ table₀ normal₀ overlay₀ output₀ stepped₀ course₀ turns₀ input text store table normal overlay output stepped course turns =
     (length input ≡ length input₀)
@@ -20,6 +21,7 @@ Inv-loop file input₀ text₀ store₀ table₀ normal₀ overlay₀ output₀ 
     × (length output ≡ length output₀)
     × (course .to ≤ length input)
 
+-- how many turns are left
 abbrev μ-loop : tie.MeasureT-loop
 μ-loop file input₀ text₀ store₀ table₀ normal₀ overlay₀ output₀ stepped₀ course₀ turns₀ input text store table normal overlay output stepped course turns = turns
 

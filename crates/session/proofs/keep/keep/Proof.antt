@@ -10,9 +10,11 @@ use lib.Seq.{paste, paste-zero, paste-suc}
 use Rattle.session.proofs.keep.keep.Statement.{statement}
 use Rattle.session.proofs.keep.keep.Tie as tie
 
+-- before each turn the first so many bytes are copied
 abbrev Inv-loop : tie.InvT-loop
 Inv-loop room₀ at bytes i₀ room i = (i ≤ length bytes) × ((length room ≡ length room₀) × (room ≡ paste room₀ at bytes i))
 
+-- how many are left
 abbrev μ-loop : tie.MeasureT-loop
 μ-loop room₀ at bytes i₀ room i = length bytes - i
 

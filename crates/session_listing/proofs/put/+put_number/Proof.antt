@@ -24,10 +24,12 @@ abbrev put-number-at : ℕ → In 1 put-number-kinds.ps
 put-number-at t =
     and 1 put-number-kinds.ps (is 1 put-number-kinds.ps μ-put-number t) put-number.Pre
 
+-- what a call with a smaller number may ask
 abbrev put-number-below : ℕ → In 1 put-number-kinds.ps
 put-number-below t =
     and 1 put-number-kinds.ps (falls 1 put-number-kinds.ps _<_ μ-put-number t) put-number.Pre
 
+-- a number below ten is a digit
 put-number-digit-requires : (t : ℕ) → put-number-lts.Need-digit-requires (
   digit-reads.Asked,
   digit-reads.Learnt,
@@ -36,6 +38,7 @@ put-number-digit-requires : (t : ℕ) → put-number-lts.Need-digit-requires (
 ) (put-number-at t) put-number.Post
 put-number-digit-requires t c κs = omega arith
 
+-- there is room for the digit
 put-number-slice-write-lent : (t : ℕ) → put-number-lts.Need-slice-write-lent (
   digit-reads.Asked,
   digit-reads.Learnt,
@@ -46,6 +49,7 @@ put-number-slice-write-lent t c =
     let start = c .before .before .before in
     omega (arith, decimal-at-least-1 (start .args .number), start .pre .1)
 
+-- the place after it is within the lent bytes
 put-number-add-result : (t : ℕ) → put-number-lts.Need-add-result (
   digit-reads.Asked,
   digit-reads.Learnt,
@@ -54,6 +58,7 @@ put-number-add-result : (t : ℕ) → put-number-lts.Need-add-result (
 ) (put-number-at t) put-number.Post
 put-number-add-result t c = search needs
 
+-- the lent bytes stay as many
 put-number-same-length : (t : ℕ) → put-number-lts.Need-same-length (
   digit-reads.Asked,
   digit-reads.Learnt,
@@ -62,6 +67,7 @@ put-number-same-length : (t : ℕ) → put-number-lts.Need-same-length (
 ) (put-number-at t) put-number.Post
 put-number-same-length t c = search needs
 
+-- the digit is the number
 put-number-returns : (t : ℕ) → put-number-lts.Need-returns (
   digit-reads.Asked,
   digit-reads.Learnt,
@@ -74,6 +80,7 @@ put-number-returns t c =
     rw (c .digit .ensures)
     (put-as (put-one (now (given .lent)) (given .at) _ (omega (arith, decimal-at-least-1 (given .number), start .pre .1)) refl) (sym (decimal-one (given .number) (omega arith))))
 
+-- without its last digit the number is smaller, and there is room for it
 put-number-put-number-requires : (t : ℕ) → put-number-lts.Need-put-number-requires (
   digit-reads.Asked,
   digit-reads.Learnt,
@@ -84,6 +91,7 @@ put-number-put-number-requires t c κs =
     let start = c .before .before .before in
     (omega (arith, start .pre .0), omega (arith, decimal-longer (start .args .number) (omega arith), start .pre .1))
 
+-- a rest by ten is a digit
 put-number-digit-requires-2 : (t : ℕ) → put-number-lts.Need-digit-requires-2 (
   digit-reads.Asked,
   digit-reads.Learnt,
@@ -92,6 +100,7 @@ put-number-digit-requires-2 : (t : ℕ) → put-number-lts.Need-digit-requires-2
 ) (put-number-at t) put-number.Post
 put-number-digit-requires-2 t c κs = omega arith
 
+-- there is room for the last digit
 put-number-slice-write-lent-2 : (t : ℕ) → put-number-lts.Need-slice-write-lent-2 (
   digit-reads.Asked,
   digit-reads.Learnt,
@@ -103,6 +112,7 @@ put-number-slice-write-lent-2 t c =
     let start = others .before .before .before .before in
     omega (arith, decimal-longer (start .args .number) (omega arith), start .pre .1)
 
+-- the place after it is within the lent bytes
 put-number-add-result-2 : (t : ℕ) → put-number-lts.Need-add-result-2 (
   digit-reads.Asked,
   digit-reads.Learnt,
@@ -111,6 +121,7 @@ put-number-add-result-2 : (t : ℕ) → put-number-lts.Need-add-result-2 (
 ) (put-number-at t) put-number.Post
 put-number-add-result-2 t c = search needs
 
+-- the lent bytes stay as many
 put-number-same-length-2 : (t : ℕ) → put-number-lts.Need-same-length-2 (
   digit-reads.Asked,
   digit-reads.Learnt,
@@ -119,6 +130,7 @@ put-number-same-length-2 : (t : ℕ) → put-number-lts.Need-same-length-2 (
 ) (put-number-at t) put-number.Post
 put-number-same-length-2 t c = search needs
 
+-- the last digit stands behind the number without it
 put-number-returns-2 : (t : ℕ) → put-number-lts.Need-returns-2 (
   digit-reads.Asked,
   digit-reads.Learnt,

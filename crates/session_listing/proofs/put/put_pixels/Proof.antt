@@ -11,9 +11,11 @@ use Rattle.session_listing.proofs.Pixels.{pixels-more}
 use Rattle.session_listing.proofs.put.put_pixels.Statement.{statement}
 use Rattle.session_listing.proofs.put.put_pixels.Tie as tie
 
+-- before each turn the first so many colours are put
 abbrev Inv-loop : tie.InvT-loop
 Inv-loop lent₀ at colours count next₀ i₀ lent next i = Putting pixels 7 lent₀ at colours count lent next i
 
+-- how many are left
 abbrev μ-loop : tie.MeasureT-loop
 μ-loop lent₀ at colours count next₀ i₀ lent next i = count - i
 

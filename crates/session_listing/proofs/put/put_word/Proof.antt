@@ -10,9 +10,11 @@ use Rattle.session_listing.proofs.Puts.{put-one, Putting, putting-start
 use Rattle.session_listing.proofs.put.put_word.Statement.{statement}
 use Rattle.session_listing.proofs.put.put_word.Tie as tie
 
+-- before each turn the first so many letters are put
 abbrev Inv-loop : tie.InvT-loop
 Inv-loop lent₀ at from letters i₀ lent i = Putting (λ bytes. bytes) 1 lent₀ at (drop from allWords) letters lent (at + i) i
 
+-- how many are left
 abbrev μ-loop : tie.MeasureT-loop
 μ-loop lent₀ at from letters i₀ lent i = letters - i
 

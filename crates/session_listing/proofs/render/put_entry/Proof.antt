@@ -36,7 +36,7 @@ returns c =
     let given = line .before .before .before .before .args in
     let end = put-one (line .put-parts .last .0) (line .put-parts .result) 10 (search needs) refl in
     put-as (put-then (line .put-parts .ensures .0) (put-then end (shown .put-pixels .ensures)))
-    (sym (append-assoc (lineOf (given .parts)) (10 ∷ []) (pixels (take (given .parts .shown) (now (given .output))))))
+    (sym (append-assoc (lineOf (given .parts)) (10 ∷ []) (pixels (take (given .parts .pixels) (now (given .output))))))
 
 pub put-entry-spec : {M : Type 1} → statement M
 put-entry-spec =
