@@ -75,13 +75,13 @@ module _ (controls : Controls) (screen : Screen) (store table normal overlay : L
         (λ (at : controls .depth ≡ 32). rw at (omega (arith, told .1)))
         (sized .at-depth))
 
-    -- and in the overlay row where overlay counts
+    -- where overlay counts, there are bytes for it in the overlay row
     pub overlay-reaches : FitsScreen controls screen → overlayCounts screen (found .entry) ≡ true → x + (found .end - x) ≤ length overlay
     overlay-reaches fits counts =
         let long = enough .overlay-long (sym (fits .same-overlay) ∙ first-on (screen .overlay) (found .entry .overlay) counts) in
         omega (arith, told .0, told .1, long)
 
-    -- and room for it in the output
+    -- there is room for it in the output
     pub output-reaches : found .end - x ≤ length (take (length now - x) (drop x now))
     output-reaches = rw (tail-lent x now, length-drop) (omega (arith, told .1, enough .output-long, here .long))
 

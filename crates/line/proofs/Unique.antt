@@ -10,7 +10,7 @@ use Rattle.chip.specs.declared.state.State.{State}
 use Rattle.line.specs.declared.draw.Drawn.{Drawn}
 use Rattle.line.proofs.draw.draw.Reads as draw
 
--- a line
+-- one state, output and answer of a drawn line
 pub draw-unique : OneOutcome (λ k exit. now (exit .1 .1 .1 .1 .1 .0)) draw.Post
 draw-unique =
     by-outcome (λ k (r : Drawn). r .state) (λ k (r : Drawn). answerOutcome (r .answer))

@@ -74,6 +74,6 @@ lineRule setup = do
   entries ← entriesOf setup
   coloursOf setup entries
 
--- the same for what is lent
+-- what comes of the rule over what is lent: the colours, or the refusal
 unfoldable pub lineOf : Setup → Lent → Outcome Numbered (List ℕ)
 lineOf setup lent = run (view lent) (lineRule setup)

@@ -7,6 +7,6 @@ use Rattle.line.specs.declared.request.Request.{Request}
 abbrev pub requestOf : State → ℕ → Request
 requestOf state y = record { state = state; y = y }
 
--- the same asked of another state
+-- what is asked for, with another state in place of its own
 abbrev pub withState : Request → State → Request
 withState request state = record { state = state; y = request .y }

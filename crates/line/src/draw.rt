@@ -17,9 +17,11 @@ use line_setup::setup::Setup;
 use line_windows::frame::LineTable;
 use refusals::Answer;
 
-// The state that a line hands back, and its answer.
+// What a line hands back.
 pub struct Drawn {
+    // The state that it was asked for by.
     pub state: State,
+    // Done where the line is in the output, else the refusal.
     pub answer: Answer,
 }
 

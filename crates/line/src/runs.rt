@@ -11,16 +11,21 @@ use line_windows::ids::FoundId;
 use line_windows::ids::LookedUp;
 use refusals::Refusal;
 
-// What the window entry of a run says, the pixel behind its last, and the line entry to go on from.
+// A run.
 pub struct Run {
+    // What the window entry of its pixels says.
     pub entry: WindowEntry,
+    // The pixel behind its last.
     pub end: u32,
+    // The line entry from which the look-up of that pixel goes on.
     pub next: usize,
 }
 
-// The run that starts at a pixel, or the refusal.
+// Whether a run starts at a pixel.
 pub enum RunAt {
+    // It does.
     Is(Run),
+    // The pixel has no line entry, or its window entry is undefined.
     Refused(Refusal),
 }
 

@@ -6,8 +6,10 @@ use Rattle.refusals.proofs.Known.{answer-known}
 use Rattle.line_setup.proofs.controls.Controls.of.Reads as of
 use Rattle.line_setup.proofs.setup.Setup.line_check.Reads as line-check
 
+-- what control words say
 pub of-unique : OneAnswer of.Post
 of-unique = by-equation _ _
 
+-- the checks before anything is read
 pub line-check-unique : OneAnswer line-check.Post
 line-check-unique k args answer other exit exit′ says says′ = answer-known answer other (says ∙ sym says′)

@@ -4,21 +4,33 @@ ghost use mathlib.Core.Path.{_≡_};
 ghost use Rattle.words.specs.Field.{field};
 ghost use Rattle.line_setup.specs.Controls.{switch, depthOf, controlsOf};
 
-// The fields of the control words that a line goes by: switches, depth, total columns and lines, the active origin and size, the cursor.
-// Sizes and totals are the fields plus 1.
+// The fields of the control words that a line goes by. Sizes and totals are the fields plus 1.
 pub struct Controls {
+    // Whether overlay is on.
     pub overlay: bool,
+    // Whether window IDs come from the table; else all pixels are window 0's.
     pub ids: bool,
+    // Whether the cursor is on.
     pub cursor: bool,
+    // Whether the cursor is a cross-hair, and not the glyph.
     pub crosshair: bool,
+    // The bits of a pixel of the normal row: 16 or 32.
     pub depth: u32,
+    // The total width.
     pub columns: u32,
+    // The total lines.
     pub lines: u32,
+    // x of the active origin.
     pub left: u32,
+    // y of the active origin.
     pub top: u32,
+    // The active width.
     pub width: u32,
+    // The active height.
     pub height: u32,
+    // x of the cursor.
     pub cx: u32,
+    // y of the cursor.
     pub cy: u32,
 }
 

@@ -14,9 +14,11 @@ use Rattle.line.proofs.passes.check_runs.Lts as lts
 use Rattle.line.proofs.passes.check_runs.Statement.{statement}
 use Rattle.line.proofs.passes.check_runs.Tie as tie
 
+-- every pixel before x has an entry
 abbrev Inv-loop : tie.InvT-loop
 Inv-loop controls store table start x₀ from₀ x from = Passing controls store table start x from
 
+-- the pixels that are left
 abbrev μ-loop : tie.MeasureT-loop
 μ-loop controls store table start x₀ from₀ x from = controls .width - x
 

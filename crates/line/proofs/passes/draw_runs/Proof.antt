@@ -16,9 +16,11 @@ use Rattle.line.proofs.passes.draw_runs.Lts as lts
 use Rattle.line.proofs.passes.draw_runs.Statement.{statement}
 use Rattle.line.proofs.passes.draw_runs.Tie as tie
 
+-- every pixel before x is drawn
 abbrev Inv-loop : tie.InvT-loop
 Inv-loop controls screen store table start normal overlay out₀ x₀ from₀ out x from = Drawing controls screen store table normal overlay start out₀ out x from
 
+-- the pixels that are left
 abbrev μ-loop : tie.MeasureT-loop
 μ-loop controls screen store table start normal overlay out₀ x₀ from₀ out x from = controls .width - x
 
