@@ -17,11 +17,17 @@ impl Index8 {
 
     pub const BLUE: u32 = 0;
 
+    // The entries of a bank.
+    pub const BANK_ENTRIES: u32 = 256;
+
+    // The last bank.
+    pub const LAST_BANK: u32 = 17;
+
     // The map entry of a sample, in a bank.
     pub fn map_entry(bank: u8, sample: u32) -> u32
         ensures { λ r. ⌜ r ≡ entryInBank bank (valueOf Format.Index8 sample) ⌝ }
     {
-        256 * (bank as u32) + words::bits(sample, 0, Self::BITS)
+        Self::BANK_ENTRIES * (bank as u32) + words::bits(sample, 0, Self::BITS)
     }
 }
 
@@ -245,7 +251,7 @@ impl Format {
         ensures { λ r. ⌜ r ≡ hasBank self bank ⌝ }
     {
         match self {
-            Format::Index8 => bank <= 17,
+            Format::Index8 => bank <= Index8::LAST_BANK,
             Format::Index12 => true,
             Format::Rgb332 => true,
             Format::Rgb444 => true,

@@ -11,6 +11,15 @@ use crate::store::stored;
 use chip_registers::Block;
 use chip_registers::Register;
 
+// The columns and the rows of the glyph.
+const GLYPH_SIDE: usize = 32;
+
+// The last column and the last row of it.
+const GLYPH_LAST: usize = 31;
+
+// The cells in a word of it.
+const WORD_CELLS: usize = 16;
+
 // The number in a cell of the glyph.
 fn glyph_cell(store: &[u32], row: usize, column: usize) -> u32
     requires { ⌜ (length (now store) ≡ storeLength) × (row < 32) × (column < 32) ⌝ }
@@ -18,9 +27,9 @@ fn glyph_cell(store: &[u32], row: usize, column: usize) -> u32
 {
     let register = Register {
         block: Block::CursorGlyph,
-        word: (2 * row + column / 16) as u32,
+        word: (2 * row + column / WORD_CELLS) as u32,
     };
-    let low = (30 - 2 * (column % 16)) as u32;
+    let low = (30 - 2 * (column % WORD_CELLS)) as u32;
     words::bits(stored(store, register), low, 2)
 }
 
@@ -52,13 +61,17 @@ impl Screen {
             }
             return 0;
         }
-        if !among(self.cx, x, 32) {
+        if !among(self.cx, x, GLYPH_SIDE) {
             return 0;
         }
-        if !among(self.cy, self.y, 32) {
+        if !among(self.cy, self.y, GLYPH_SIDE) {
             return 0;
         }
-        glyph_cell(store, 31 - (self.cy - self.y), 31 - (self.cx - x))
+        glyph_cell(
+            store,
+            GLYPH_LAST - (self.cy - self.y),
+            GLYPH_LAST - (self.cx - x),
+        )
     }
 
     // Whether a cursor colour can show at one of so many pixels from x on; where not, none does.
@@ -75,9 +88,9 @@ impl Screen {
             }
             return among(self.cx, x, count);
         }
-        if !among(self.cy, self.y, 32) {
+        if !among(self.cy, self.y, GLYPH_SIDE) {
             return false;
         }
-        among(self.cx, x, count + 31)
+        among(self.cx, x, count + GLYPH_LAST)
     }
 }

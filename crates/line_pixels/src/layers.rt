@@ -4,6 +4,7 @@ ghost use mathlib.Core.Path.{_≡_};
 ghost use mathlib.Core.Logic.{_⊎_};
 ghost use lib.ListN.{length};
 ghost use Rattle.rules.specs.Rule.{get, value};
+ghost use Rattle.chip_registers.specs.Blocks.{count};
 ghost use Rattle.chip_registers.specs.Store.{storeLength};
 ghost use Rattle.line_pixels.specs.Cells.{mapEntry, pixelWord, pixelView};
 ghost use Rattle.line_pixels.specs.Colour.{cursorSkipsGamma, throughGamma, normalAt, plainAt, overlayCounts, overlayAt, underCursor, colourOfPixel};
@@ -23,6 +24,9 @@ use line_formats::Index8;
 use line_formats::Index12;
 use words::Rgb;
 
+// The map entry of overlay byte 0: the overlay colours stand from it on.
+const OVERLAY_COLOURS: u32 = 4352;
+
 // A pixel of the normal row, all bits of it.
 fn pixel_word(depth: u32, normal: &[u8], x: usize) -> u32
     requires { ⌜ ((depth ≡ 16) ⊎ (depth ≡ 32)) × ((x + 1) * (depth / 8) ≤ length (now normal)) ⌝ }
@@ -36,7 +40,7 @@ fn pixel_word(depth: u32, normal: &[u8], x: usize) -> u32
 
 // A word of the colour map.
 fn mapped(store: &[u32], entry: u32) -> u32
-    requires { ⌜ (length (now store) ≡ storeLength) × (entry < 4608) ⌝ }
+    requires { ⌜ (length (now store) ≡ storeLength) × (entry < count Block.ColourMap) ⌝ }
     ensures { λ r. ⌜ OverStore (now (store .entry)) (get (mapEntry entry)) r ⌝ }
 {
     let register = Register {
@@ -133,7 +137,7 @@ impl Screen {
         if byte == 0 {
             return plain_at(self.depth, Sampling::of(entry), store, normal, x);
         }
-        through_gamma(store, entry.bypass, mapped(store, 4352 + byte))
+        through_gamma(store, entry.bypass, mapped(store, OVERLAY_COLOURS + byte))
     }
 
     // Whether a cursor colour over a window entry is shown as it is stored: each is.

@@ -4,6 +4,10 @@ ghost use lib.ListN.{length};
 ghost use Rattle.rules.specs.Rule.{run};
 ghost use Rattle.line_windows.specs.Table.{tableView};
 ghost use Rattle.line_windows.specs.Frame.{frameEntries, lineTableOutcome, startBelow, lineTableOf};
+use crate::BLOCK_BYTES;
+use crate::FRAME_ENTRY_BYTES;
+use crate::LINE_ENTRY_BYTES;
+use crate::MOST_FRAME_ENTRIES;
 use refusals::Refusal;
 
 // Where a line's table starts, or the refusal.
@@ -13,11 +17,15 @@ pub enum LineTable {
 }
 
 // How many whole frame entries a table of so many bytes has.
-fn frame_entries(length: usize) -> usize
-    ensures { λ r. ⌜ r ≡ frameEntries length ⌝ }
+fn frame_entries(bytes: usize) -> usize
+    ensures { λ r. ⌜ r ≡ frameEntries bytes ⌝ }
 {
-    let whole = length / 4;
-    if whole < 2048 { whole } else { 2048 }
+    let whole = bytes / FRAME_ENTRY_BYTES;
+    if whole < MOST_FRAME_ENTRIES {
+        whole
+    } else {
+        MOST_FRAME_ENTRIES
+    }
 }
 
 // Where the line table of line y starts: the first frame entry that ends there or later says.
@@ -27,11 +35,11 @@ pub fn line_table(table: &[u8], y: u32) -> LineTable
     let count = frame_entries(table.len());
     let mut entry = 0;
     while entry < count {
-        let word = words::be32(table, 4 * entry);
+        let word = words::be32(table, FRAME_ENTRY_BYTES * entry);
         if y <= words::field(word, 26, 16) {
             let block = words::field(word, 14, 8) as usize;
             let offset = words::field(word, 7, 0) as usize;
-            return LineTable::Starts(512 * block + 2 * offset);
+            return LineTable::Starts(BLOCK_BYTES * block + LINE_ENTRY_BYTES * offset);
         }
         entry += 1;
     }

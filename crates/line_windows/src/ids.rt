@@ -5,6 +5,8 @@ ghost use Rattle.rules.specs.Rule.{run};
 ghost use Rattle.line_windows.specs.Table.{tableView};
 ghost use Rattle.line_windows.specs.Ids.{lineEntries};
 ghost use Rattle.line_windows.specs.Carried.{lookUpOutcome, idBelow, foundFrom};
+use crate::BLOCK_BYTES;
+use crate::LINE_ENTRY_BYTES;
 use refusals::Refusal;
 
 // What a line entry serves: its ID, the last pixel that it serves, and the entry to go on from after that.
@@ -21,18 +23,18 @@ pub enum LookedUp {
 }
 
 // How many whole line entries there are from byte `start` on, in a table of so many bytes: to the end of the block or of the table.
-fn line_entries(length: usize, start: usize) -> usize
-    ensures { λ r. ⌜ r ≡ lineEntries length start ⌝ }
+fn line_entries(bytes: usize, start: usize) -> usize
+    ensures { λ r. ⌜ r ≡ lineEntries bytes start ⌝ }
 {
-    if length <= start {
+    if bytes <= start {
         return 0;
     }
-    let in_block = 512 - start % 512;
-    let in_table = length - start;
+    let in_block = BLOCK_BYTES - start % BLOCK_BYTES;
+    let in_table = bytes - start;
     if in_block < in_table {
-        in_block / 2
+        in_block / LINE_ENTRY_BYTES
     } else {
-        in_table / 2
+        in_table / LINE_ENTRY_BYTES
     }
 }
 
@@ -43,7 +45,7 @@ pub fn look_up(table: &[u8], start: usize, from: usize, x: u32) -> LookedUp
     let count = line_entries(table.len(), start);
     let mut entry = from;
     while entry < count {
-        let word = words::be16(table, start + 2 * entry);
+        let word = words::be16(table, start + LINE_ENTRY_BYTES * entry);
         let xend = words::field(word, 15, 5);
         if x <= xend {
             return LookedUp::Id(FoundId {
