@@ -34,20 +34,22 @@ module _ (setup : Setup) (lent : Lent) where
     at-8 : refusal .number ≡ 8 → placeIn refusal < setup .controls .width
     at-9 : refusal .number ≡ 9 → placeIn refusal < setup .controls .width
 
-  -- before anything is read it is neither
+  -- a refusal that comes before anything is read is neither 8 nor 9
   placed-early : {refusal : Numbered} → NothingListed refusal → Placed refusal
   placed-early none = record { at-8 = λ is. absurd (none .not-8 is); at-9 = λ is. absurd (none .not-9 is) }
 
-  -- a first pass that is refused
+  -- 8 and 9 of a first pass that is refused are placed so
   placed-entries : {refusal : Numbered} → run (view lent) (entriesOf setup) ≡ refused refusal → Placed refusal
   unfolding entriesOf
   placed-entries {refusal} e = by (either (view lent) (starting setup lent) (passing setup lent) e)
     where
+      -- a pixel that is refused is one of the active width, and the refusal is placed there
       by-pixel : {start : ℕ} (at : StopsAt (view lent) (entering setup lent start) (setup .controls .width) 0 refusal)
           → RefusedPixel setup lent start (at .position) refusal → Placed refusal
       by-pixel at (without-id lacks is place) = record { at-8 = λ e. omega (arith, at .high, place); at-9 = λ e. omega (arith, at .high, place) }
       by-pixel at (undefined id found is place) = record { at-8 = λ e. omega (arith, at .high, place); at-9 = λ e. omega (arith, at .high, place) }
 
+      -- without a frame entry the refusal is 7; else it is that of a pixel
       by : Either (view lent) (starting setup lent) (passing setup lent) refusal → Placed refusal
       by (at-first none) =
           let seven = frame-number setup lent (no-frame setup lent none) in
@@ -56,15 +58,17 @@ module _ (setup : Setup) (lent : Lent) where
           let at = each-stops (view lent) (entering setup lent start) (setup .controls .width) 0 stops in
           by-pixel at (pixel-refused setup lent start (at .position) (at .stops))
 
-  -- a line that is refused
+  -- 8 and 9 of a line that is refused are placed so
   placed : {refusal : Numbered} → lineOf setup lent ≡ refused refusal → Placed refusal
   placed {refusal} e = by-verdict (verdict (lineFaults setup)) refl
     where
+      -- a line that is refused for what it reads is refused by its first pass
       by-entries : verdict (lineFaults setup) ≡ ok tt → (outcome : Outcome Numbered (List WindowEntry)) → run (view lent) (entriesOf setup) ≡ outcome → Placed refusal
       by-entries fine (ok entries) found = impossible (cc (answered-drawn setup lent fine found .1))
       by-entries fine (refused other) found =
           let same : other ≡ refusal = cc (answered-refused setup lent fine found) in placed-entries (rw same at found)
 
+      -- a line is refused before anything is read, or by its first pass
       by-verdict : (outcome : Outcome Numbered (Unit {0})) → verdict (lineFaults setup) ≡ outcome → Placed refusal
       by-verdict (refused other) found =
           let same : other ≡ refusal = cc (refused-unread setup lent found) in placed-early (early setup (rw same at found))
@@ -73,11 +77,11 @@ module _ (setup : Setup) (lent : Lent) where
   -- ---- what is listed
 
   module _ (id : ℕ) where
-    -- more pixels are met
+    -- a window entry that is listed of some pixels is listed of more
     widened : {met wider : ℕ} → met ≤ wider → WindowListed setup lent met id → WindowListed setup lent wider id
     widened fits listed = record { pixel = listed .pixel; is-met = omega (arith, listed .is-met); has = listed .has }
 
-    -- a window entry that is listed for a refusal
+    -- a window entry that is listed for a refusal is listed of all active pixels
     window-refused : {refusal : Numbered} → Placed refusal → RefusedListed setup lent refusal (windowEntry id) → WindowListed setup lent (setup .controls .width) id
     window-refused at (of-7 is listed) = widened (omega arith) listed
     window-refused at (of-8 is listed) = let below = at .at-8 is in widened (omega arith) listed
@@ -87,6 +91,7 @@ module _ (setup : Setup) (lent : Lent) where
     pub window-active : Listed setup lent (windowEntry id) → WindowListed setup lent (setup .controls .width) id
     window-active listed = by (lineOf setup lent) refl listed
       where
+        -- a line that is drawn meets all active pixels, one that is refused only such
         by : (line : Outcome Numbered (List ℕ)) → lineOf setup lent ≡ line → ListedFor setup lent line (windowEntry id)
             → WindowListed setup lent (setup .controls .width) id
         by (ok colours) e there = there
@@ -103,6 +108,7 @@ module _ (setup : Setup) (lent : Lent) where
     pub colour-active : Listed setup lent (ofColour cell) → PixelListed setup lent cell
     colour-active listed = by (lineOf setup lent) listed
       where
+        -- a line that is drawn lists it for a pixel; one that is refused doesn't list it
         by : (line : Outcome Numbered (List ℕ)) → ListedFor setup lent line (ofColour cell) → PixelListed setup lent cell
         by (ok colours) there = there
         by (refused refusal) there = absurd (colour-refused there)
@@ -114,14 +120,14 @@ module _ (setup : Setup) (lent : Lent) where
   frame-on toTheOneFound number listed = listed .found .on
   frame-on throughAll number listed = listed .on
 
-  -- and so is every cell of the table, however far the line gets
+  -- so is every cell of the table, however far the line gets
   reach-on : (reach : Reach) (cell : TableCell) → ListedTo setup lent reach (ofTable cell) → setup .controls .ids ≡ true
   reach-on reach (yend number) listed = frame-on (reach .frames) number listed
   reach-on reach (lineTable number) listed = listed .on
   reach-on reach (xend byte) listed = listed .starts .on
   reach-on reach (windowId byte) listed = listed .starts .on
 
-  -- one that is listed for a refusal
+  -- a cell of the table is listed for a refusal only where window IDs are on
   table-refused : {refusal : Numbered} (cell : TableCell) → RefusedListed setup lent refusal (ofTable cell) → setup .controls .ids ≡ true
   table-refused cell (of-7 is listed) = reach-on noFrameEntry cell listed
   table-refused {refusal} cell (of-8 is listed) = reach-on (noLineEntry (placeIn refusal)) cell listed
@@ -131,6 +137,7 @@ module _ (setup : Setup) (lent : Lent) where
   pub table-on : (cell : TableCell) → Listed setup lent (ofTable cell) → setup .controls .ids ≡ true
   table-on cell listed = by (lineOf setup lent) listed
     where
+      -- whether the line is drawn or refused
       by : (line : Outcome Numbered (List ℕ)) → ListedFor setup lent line (ofTable cell) → setup .controls .ids ≡ true
       by (ok colours) there = reach-on (whole setup lent) cell there
       by (refused refusal) there = table-refused cell there

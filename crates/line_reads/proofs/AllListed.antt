@@ -46,13 +46,13 @@ module _ (setup : Setup) (lent : Lent) where
   of-entries : {cell : Cell} → Among cell (reads (view lent) (entriesOf setup)) → Among cell (reads (view lent) two-passes)
   of-entries here = either-read (view lent) (entriesOf setup) (coloursOf setup) (by-first here)
 
-  -- and so what is read to find the line table
+  -- what is read to find the line table, the two passes read
   of-start : {cell : Cell} → Among cell (reads (view lent) (starting setup lent)) → Among cell (reads (view lent) two-passes)
   unfolding entriesOf
   of-start here = of-entries (either-read (view lent) (starting setup lent) (passing setup lent) (by-first here))
 
   module _ {start : ℕ} (started : run (view lent) (starting setup lent) ≡ ok start) where
-    -- and what a pixel reads before which all have window entries
+    -- what a pixel reads before which all have window entries, the two passes read
     of-pixel : {x : ℕ} {cell : Cell} → x < setup .controls .width → AllAnswer (view lent) (entering setup lent start) 0 x
         → Among cell (reads (view lent) (entering setup lent start x)) → Among cell (reads (view lent) two-passes)
     unfolding entriesOf
@@ -70,6 +70,7 @@ module _ (setup : Setup) (lent : Lent) where
         → (cell : Cell) → ListedTo setup lent reach cell → Among cell (reads (view lent) two-passes)
     of-listed reach is-found fits earlier ends colours cell listed = by (listed-for setup lent started reach is-found cell listed)
       where
+        -- whatever the cell is listed for, one of the passes reads it
         by : ReadFor setup lent started reach cell → Among cell (reads (view lent) two-passes)
         by (for-start here) = of-start here
         by (for-pixel x below here) = of-pixel (omega arith) (earlier x below) here
@@ -112,7 +113,7 @@ module _ (setup : Setup) (lent : Lent) where
 
   -- ---- a line that is refused
 
-  -- 7
+  -- what is listed for 7, the passes read
   no-frame-all : {refusal : Numbered} → NoFrame setup lent refusal → (cell : Cell) → ListedTo setup lent noFrameEntry cell
       → Among cell (reads (view lent) two-passes)
   no-frame-all lacks (ofTable (yend number)) listed = of-start (no-frame-listed setup lent lacks number (listed .within))
@@ -134,7 +135,7 @@ module _ (setup : Setup) (lent : Lent) where
         of-pixel started (omega (arith, at .high)) (at .earlier) (read-no-id setup lent start (at .position) (lacks all) number below))
         (λ coloured. impossible (cc))
 
-    -- 8 or 9
+    -- what is listed for 8 or 9, the passes read
     stopped-listed : RefusedPixel setup lent start (at .position) refusal → (cell : Cell) → RefusedListed setup lent refusal cell
         → Among cell (reads (view lent) two-passes)
     stopped-listed (without-id lacks is place) cell (of-7 other listed) = absurd (omega arith)
@@ -152,11 +153,13 @@ module _ (setup : Setup) (lent : Lent) where
   unfolding entriesOf
   refused-listed {refusal} e cell listed = by (either (view lent) (starting setup lent) (passing setup lent) e)
     where
+      -- without a frame entry the refusal is 7, and what is listed for that is read
       by-frame : NoFrame setup lent refusal → RefusedListed setup lent refusal cell → Among cell (reads (view lent) two-passes)
       by-frame lacks (of-7 is listed) = no-frame-all lacks cell listed
       by-frame lacks (of-8 other listed) = absurd (omega (arith, frame-number setup lent lacks))
       by-frame lacks (of-9 other listed) = absurd (omega (arith, frame-number setup lent lacks))
 
+      -- the line has no frame entry, or a pixel of it is refused
       by : Either (view lent) (starting setup lent) (passing setup lent) refusal → Among cell (reads (view lent) two-passes)
       by (at-first none) = by-frame (no-frame setup lent none) listed
       by (at-second start started stops) =
@@ -169,14 +172,17 @@ module _ (setup : Setup) (lent : Lent) where
   pub listed-reads : (cell : Cell) → Listed setup lent cell → List·Memᴰ cell (reads (view lent) (lineRule setup))
   listed-reads cell listed = by-verdict (verdict (lineFaults setup)) refl
     where
+      -- the cell is listed by what comes of the line
       by-outcome : {outcome : Outcome Numbered (List ℕ)} → lineOf setup lent ≡ outcome → ListedFor setup lent outcome cell
       by-outcome e = subst (λ (outcome : Outcome Numbered (List ℕ)). ListedFor setup lent outcome cell) e listed
 
+      -- a line whose first pass answers is drawn, any other is refused as that pass is
       by-entries : verdict (lineFaults setup) ≡ ok tt → (outcome : Outcome Numbered (List WindowEntry)) → run (view lent) (entriesOf setup) ≡ outcome
           → Among cell (reads (view lent) two-passes)
       by-entries fine (ok entries) e = drawn-listed e cell (by-outcome (answered-drawn setup lent fine e .1))
       by-entries fine (refused refusal) e = refused-listed e cell (by-outcome (answered-refused setup lent fine e))
 
+      -- for a line that is refused before anything is read nothing is listed; any other has its two passes
       by-verdict : (outcome : Outcome Numbered (Unit {0})) → verdict (lineFaults setup) ≡ outcome → List·Memᴰ cell (reads (view lent) (lineRule setup))
       by-verdict (refused refusal) e =
           absurd (nothing-listed setup lent cell (early setup e) (by-outcome (refused-unread setup lent e)))

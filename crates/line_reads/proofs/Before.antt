@@ -32,22 +32,22 @@ NoColour (ofColour cell) = ⊥
 
 -- ---- the first pass asks for no other cell
 
--- a rule over the table
+-- a rule over the table asks for cells of the table alone
 asks-table : {A : Type 0} (rule : Rule Numbered TableCell A) → Asks NoColour (inTable rule)
 asks-table rule = asks-within NoColour _ ofTable rule (asks-any _ (λ cell. tt) rule)
 
 module _ (controls : Controls) (tableBytes : ℕ) where
-  -- where the line table starts
+  -- no colour is asked for to find where the line table starts
   asks-start : (y : ℕ) → Asks NoColour (startOf controls tableBytes y)
   unfolding startOf
   asks-start y = asks-cond NoColour (controls .ids) _ _ (asks-table (lineTableOf tableBytes y)) tt
 
-  -- a pixel's ID
+  -- nor for a pixel's ID
   asks-id : (start x : ℕ) → Asks NoColour (idAt controls tableBytes start x)
   unfolding idAt
   asks-id start x = asks-cond NoColour (controls .ids) _ _ (asks-table (idOf tableBytes start x)) tt
 
-  -- a pixel's window entry
+  -- nor for a pixel's window entry
   asks-entry : (start x : ℕ) → Asks NoColour (windowEntryAt controls tableBytes start x)
   unfolding windowEntryAt
   asks-entry start x =
@@ -55,7 +55,7 @@ module _ (controls : Controls) (tableBytes : ℕ) where
       (λ id. (tt, λ word. asks-nothing NoColour x (decoded word (controls .depth))))
 
 module _ (setup : Setup) where
-  -- the whole pass
+  -- nor in the whole first pass
   asks-entries : Asks NoColour (entriesOf setup)
   unfolding entriesOf
   asks-entries =
@@ -76,18 +76,18 @@ module _ (setup : Setup) where
         reads-refused (view lent) (checked (lineFaults setup)) _ (run-checked (view lent) (lineFaults setup) ∙ e)
         ∙ checked-reads (view lent) (lineFaults setup)
 
-    -- such a line is refused so
+    -- a line that has such a refusal is refused so
     pub refused-unread : {refusal : Numbered} → verdict (lineFaults setup) ≡ refused refusal → lineOf setup lent ≡ refused refusal
     unfolding lineOf
     refused-unread e = line-unfit setup lent e
 
     module _ (fine : verdict (lineFaults setup) ≡ ok tt) where
-      -- any other is its two passes
+      -- a line that is not refused so is its two passes
       pub passes : lineOf setup lent ≡ run (view lent) (entriesOf setup >>= coloursOf setup)
       unfolding lineOf
       passes = by-entries setup lent fine
 
-      -- and reads what they read
+      -- it reads what its two passes read
       pub reads-passes : reads (view lent) (lineRule setup) ≡ reads (view lent) (entriesOf setup >>= coloursOf setup)
       unfolding lineRule
       reads-passes =
@@ -99,6 +99,7 @@ module _ (setup : Setup) where
         → (cell : Cell) → List·Memᴰ cell (reads (view lent) (lineRule setup)) → NoColour cell
     refused-line-reads {refusal} e cell here = by (verdict (lineFaults setup)) refl
       where
+        -- a line that is refused before anything is read reads nothing; any other is refused in its first pass, which reads no such cell
         by : (outcome : Outcome Numbered (Unit {0})) → verdict (lineFaults setup) ≡ outcome → NoColour cell
         by (refused other) early = absurd (List·Memᴰ·not-nil (subst (List·Memᴰ cell) (unread early) here))
         by (ok tt) fine =

@@ -24,7 +24,7 @@ use Rattle.line.specs.declared.request.Request.{Request}
 use Rattle.line_reads.proofs.Outputs.{drawn-line, word-drawn}
 
 module _ (setup : Setup) (lent : Lent) where
-  -- a pixel's colour, as a rule of the line
+  -- a pixel's colour has 24 bits
   pixel-below : (entry : WindowEntry) (x answer : ℕ) → run (view lent) (inColours (colourOfPixel (screenIn setup) entry x)) ≡ ok answer → answer < 2 ^ 24
   pixel-below entry x answer is =
       let screen = screenIn setup in
@@ -32,7 +32,7 @@ module _ (setup : Setup) (lent : Lent) where
       cc (is, run-within-value (λ refusal. absurd refusal) ofColour (view lent) (colourOfPixel screen entry x)) in
       rw same (colour-below (lent .store) (lent .normal) (lent .overlay) screen entry x)
 
-  -- every colour of a drawn line
+  -- every colour of a drawn line has 24 bits
   pub words-below : {colours : List ℕ} → lineOf setup lent ≡ ok colours → (i : ℕ) → getD colours i 0 < 2 ^ 24
   unfolding lineOf lineRule coloursOf
   words-below e =

@@ -15,15 +15,15 @@ use Rattle.line_reads.proofs.OnlyListed.{reads-listed}
 use Rattle.line_reads.proofs.AllListed.{listed-reads}
 
 module _ (setup : Setup) (lent other : Lent) (agree : AgreeOnList setup lent other) where
-  -- then they agree on the cells that it reads
+  -- lents that agree on what is listed agree on the cells that the line reads
   pub on-reads : AgreeOnReads setup lent other
   on-reads = λ cell here. agree cell (reads-listed setup lent cell here)
 
-  -- the line has one outcome
+  -- then the line has one outcome
   pub line-rests-on-list : lineOf setup lent ≡ lineOf setup other
   line-rests-on-list = line-rests setup lent other on-reads
 
-  -- and the same list
+  -- and what is listed of the one is listed of the other
   pub same-list : (cell : Cell) → Listed setup lent cell → Listed setup other cell
   same-list cell listed =
       reads-listed setup other cell

@@ -39,11 +39,12 @@ module _ (memory : PixelCell → ℕ) where
   shown-read (Colour colour) here = absurd (List·Memᴰ·not-nil here)
 
   module _ (screen : Screen) (entry : WindowEntry) (x : ℕ) where
-    -- the cursor's cells
+    -- a cell that is read for the cursor is listed
     cursor-read : {cell : PixelCell} → Among cell (reads memory (cursorAt screen x)) → ColourListed memory screen entry x cell
     unfolding cursorAt
     cursor-read {cell} here = by (screen .cursor) (screen .crosshair) (inGlyph screen x) refl refl refl here
       where
+        -- a cell of the glyph is read only where the cursor is on, shows no cross-hair and the pixel is inside
         by : (on crosshair inside : Bool) → screen .cursor ≡ on → screen .crosshair ≡ crosshair → inGlyph screen x ≡ inside
             → Among cell (reads {R = ⊥} memory
             (cond (not on) (done 0)
@@ -59,19 +60,19 @@ module _ (memory : PixelCell → ℕ) where
 
     -- ---- the layer that shows
 
-    -- the cursor, where it shows
+    -- the layer that shows is the cursor, where it is opaque
     pub cursor-here : cursorHere memory screen entry x ≢ 0 → layerHere memory screen entry x ≡ ofCursor
     cursor-here shows = rw (ne-eqb _ _ shows)
 
-    -- overlay, where it shows and the cursor is transparent
+    -- it is overlay, where that is opaque and the cursor transparent
     pub overlay-here : cursorHere memory screen entry x ≡ 0 → overlayHere memory screen entry x ≢ 0 → layerHere memory screen entry x ≡ ofOverlay
     overlay-here transparent shows = rw (eq-eqb _ _ transparent, ne-eqb _ _ shows)
 
-    -- the normal one, where both are transparent
+    -- it is the normal one, where both are transparent
     pub normal-here : cursorHere memory screen entry x ≡ 0 → overlayHere memory screen entry x ≡ 0 → layerHere memory screen entry x ≡ ofNormal
     normal-here transparent clear = rw (eq-eqb _ _ transparent, eq-eqb _ _ clear)
 
-    -- gamma words, of the colour of the layer that shows
+    -- a gamma word that is read for the colour of the layer that shows is listed
     gamma-listed : (layer : Layer) → layerHere memory screen entry x ≡ layer → {cell : PixelCell}
         → Among cell (reads memory (throughGamma (skipsGamma screen entry layer) (colourOfLayer memory screen entry x layer))) → ColourListed memory screen entry x cell
     gamma-listed layer is here =
@@ -81,11 +82,12 @@ module _ (memory : PixelCell → ℕ) where
     -- ---- its cells
 
     module _ (transparent : cursorHere memory screen entry x ≡ 0) where
-      -- the overlay byte
+      -- what is read for overlay is listed
       overlay-read : {cell : PixelCell} → Among cell (reads memory (overlayAt screen entry x)) → ColourListed memory screen entry x cell
       unfolding overlayAt
       overlay-read {cell} here = by (overlayCounts screen entry) refl here
         where
+          -- the overlay byte is read only where it counts
           by : (counts : Bool) → overlayCounts screen entry ≡ counts → Among cell (reads {R = ⊥} memory (cond counts (get (overlayByte x)) (done 0)))
               → ColourListed memory screen entry x cell
           by true e there =
@@ -93,7 +95,7 @@ module _ (memory : PixelCell → ℕ) where
           by false e there = absurd (List·Memᴰ·not-nil there)
 
       module _ (clear : overlayHere memory screen entry x ≡ 0) where
-        -- the sample and the map entry that it hits
+        -- the sample and the map entry that it hits are listed
         normal-read : {cell : PixelCell} → Among cell (reads memory (normalAt (screen .depth) entry x)) → ColourListed memory screen entry x cell
         unfolding normalAt
         normal-read {cell} here =
@@ -105,14 +107,14 @@ module _ (memory : PixelCell → ℕ) where
             subst (ColourListed memory screen entry x) (sym (found .1 .1)) (record { transparent = transparent; hit = inr (clear, found .1 .0) }))
             (List·Memᴰ·cases-cons here)
 
-        -- all of a normal colour
+        -- what is read of a normal colour is listed
         plain-read : {cell : PixelCell} → Among cell (reads memory (plainAt (screen .depth) entry x)) → ColourListed memory screen entry x cell
         unfolding plainAt
         plain-read here =
             ⊎-elim normal-read (gamma-listed ofNormal (normal-here transparent clear))
             (read-value memory (normalAt (screen .depth) entry x) (throughGamma (entry .bypass)) here)
 
-      -- all of an overlay colour
+      -- what is read of an overlay colour is listed
       overlaid-read : overlayHere memory screen entry x ≢ 0 → {cell : PixelCell}
           → Among cell (reads memory (overlaid entry (overlayHere memory screen entry x))) → ColourListed memory screen entry x cell
       unfolding overlaid
@@ -122,19 +124,20 @@ module _ (memory : PixelCell → ℕ) where
           (gamma-listed ofOverlay (overlay-here transparent shows))
           (List·Memᴰ·cases-cons here)
 
-      -- all that is read where the cursor is transparent
+      -- what is read where the cursor is transparent is listed
       under-read : {cell : PixelCell} → Among cell (reads memory (underCursor screen entry x)) → ColourListed memory screen entry x cell
       unfolding underCursor
       under-read {cell} here =
           ⊎-elim overlay-read (by (eqb (overlayHere memory screen entry x) 0) refl) (read-value memory (overlayAt screen entry x) _ here)
         where
+          -- where overlay is transparent the normal colour is read, else that of overlay
           by : (clear : Bool) → eqb (overlayHere memory screen entry x) 0 ≡ clear
               → Among cell (reads memory (cond clear (plainAt (screen .depth) entry x) (overlaid entry (overlayHere memory screen entry x))))
               → ColourListed memory screen entry x cell
           by true e there = plain-read (eqb-true _ _ e) there
           by false e there = overlaid-read (eqb-false _ _ e) there
 
-    -- all of a cursor colour
+    -- what is read of a cursor colour is listed
     shown-cursor-read : cursorHere memory screen entry x ≢ 0 → {cell : PixelCell}
         → Among cell (reads memory (cursorShown screen entry (cursorHere memory screen entry x))) → ColourListed memory screen entry x cell
     unfolding cursorShown
@@ -150,6 +153,7 @@ module _ (memory : PixelCell → ℕ) where
     colour-read {cell} here =
         ⊎-elim cursor-read (by (eqb (cursorHere memory screen entry x) 0) refl) (read-value memory (cursorAt screen x) _ here)
       where
+        -- where the cursor is transparent the layers below it are read, else its colour
         by : (clear : Bool) → eqb (cursorHere memory screen entry x) 0 ≡ clear
             → Among cell (reads memory (cond clear (underCursor screen entry x) (cursorShown screen entry (cursorHere memory screen entry x))))
             → ColourListed memory screen entry x cell

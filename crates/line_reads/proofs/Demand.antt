@@ -21,7 +21,7 @@ module _ (setup : Setup) (lent other : Lent) (agree : AgreeOnReads setup lent ot
   unfolding lineOf
   line-rests = same-run (view lent) (view other) (lineRule setup) agree
 
-  -- and it reads the same cells
+  -- and it reads the same cells of both
   pub line-reads : reads (view lent) (lineRule setup) ≡ reads (view other) (lineRule setup)
   line-reads = same-reads (view lent) (view other) (lineRule setup) agree
 

@@ -38,7 +38,7 @@ module _ (setup : Setup) (lent : Lent) where
   unfolding startOf
   start-on on = rw on refl
 
-  -- off, there is none
+  -- off, no line table is looked up
   start-off : setup .controls .ids ≡ false → starting ≡ done 0
   unfolding startOf
   start-off off = rw off refl
@@ -48,7 +48,7 @@ module _ (setup : Setup) (lent : Lent) where
   unfolding idAt
   id-on on start x = rw on refl
 
-  -- off, it is 0
+  -- off, a pixel's ID is 0
   pub id-off : setup .controls .ids ≡ false → (start x : ℕ) → identifying start x ≡ done 0
   unfolding idAt
   id-off off start x = rw off refl
@@ -57,21 +57,21 @@ module _ (setup : Setup) (lent : Lent) where
   pub starts-at : setup .controls .ids ≡ true → {start : ℕ} → run (view lent) starting ≡ ok start → StartsAt setup lent start
   starts-at on e = record { on = on; found = sym (run-in-table lent (lineTableOf (setup .lengths .table) (setup .y))) ∙ (rw (start-on on) at e) }
 
-  -- and where one starts, it is found
+  -- where a line table starts, it is found
   pub starts-found : {start : ℕ} → StartsAt setup lent start → run (view lent) starting ≡ ok start
   starts-found at = rw (start-on (at .on)) (run-in-table lent (lineTableOf (setup .lengths .table) (setup .y)) ∙ at .found)
 
   -- ---- where the line table starts
 
   module _ (on : setup .controls .ids ≡ true) where
-    -- what is read for it is read of the table
+    -- what is read to find the line table is read of the table
     start-inner : {cell : Cell} → Among cell (reads (view lent) starting)
         → Becomes ofTable (reads (tableView (lent .table)) (lineTableOf (setup .lengths .table) (setup .y))) cell
     start-inner {cell} here =
         read-within (λ (refusal : Numbered). refusal) ofTable (view lent) (lineTableOf (setup .lengths .table) (setup .y))
         (subst (λ (rule : Rule Numbered Cell ℕ). Among cell (reads (view lent) rule)) (start-on on) here)
 
-    -- and the other way round
+    -- what the look-up in the table reads is read to find the line table
     inner-start : {inner : TableCell} → Among inner (reads (tableView (lent .table)) (lineTableOf (setup .lengths .table) (setup .y)))
         → Among (ofTable inner) (reads (view lent) starting)
     inner-start {inner} here =
@@ -87,6 +87,7 @@ module _ (setup : Setup) (lent : Lent) where
         (by (look-up-read (tableView (lent .table)) (numbered (NoFrameEntry (setup .y))) yend lineTable (frameEntries (setup .lengths .table)) (setup .y)
         (starts .found) (found .here)))
       where
+        -- a cell that the look-up reads is an end up to that of the entry found, or where its line table starts
         by : {inner : TableCell}
             → LookedUpCell (tableView (lent .table)) (numbered (NoFrameEntry (setup .y))) yend lineTable (frameEntries (setup .lengths .table)) (setup .y) inner
             → ListedTo setup lent reach (ofTable inner)
@@ -101,6 +102,7 @@ module _ (setup : Setup) (lent : Lent) where
       → {cell : Cell} → Among cell (reads (view lent) starting) → ListedTo setup lent reach cell
   start-read reach is-found e {cell} here = by (setup .controls .ids) refl
     where
+      -- with window IDs on the table is looked up, with them off nothing is read
       by : (test : Bool) → setup .controls .ids ≡ test → ListedTo setup lent reach cell
       by true on = start-listed on reach is-found (starts-at on e) (start-inner on here)
       by false off =
@@ -114,7 +116,7 @@ module _ (setup : Setup) (lent : Lent) where
       (read-end (tableView (lent .table)) (numbered (NoFrameEntry (setup .y))) yend lineTable (frameEntries (setup .lengths .table)) (setup .y)
       (listed .found .found) number (listed .up-to))
 
-  -- and where its line table starts
+  -- of the frame entry found, where its line table starts is read
   pub line-table-listed : {entry : ℕ} → FrameEntry setup lent entry → Among (ofTable (lineTable entry)) (reads (view lent) starting)
   unfolding lineTableOf
   line-table-listed {entry} listed =
@@ -132,19 +134,20 @@ module _ (setup : Setup) (lent : Lent) where
   pub no-frame : {refusal : Numbered} → run (view lent) starting ≡ refused refusal → NoFrame refusal
   no-frame {refusal} e = by (setup .controls .ids) refl
     where
+      -- with window IDs on it is the search that refuses, with them off nothing is refused
       by : (test : Bool) → setup .controls .ids ≡ test → NoFrame refusal
       by true on = record { on = on; none = sym (run-in-table lent (lineTableOf (setup .lengths .table) (setup .y))) ∙ (rw (start-on on) at e) }
       by false off = impossible (cc (start-off off))
 
   module _ {refusal : Numbered} (lacks : NoFrame refusal) where
-    -- the refusal is 7
+    -- a line without a frame entry is refused by 7
     pub frame-number : refusal .number ≡ 7
     unfolding lineTableOf
     frame-number =
         ap (λ (told : Numbered). told .number)
         (refusal-named (tableView (lent .table)) (numbered (NoFrameEntry (setup .y))) yend lineTable (frameEntries (setup .lengths .table)) (setup .y) (lacks .none))
 
-    -- all ends are read, and nothing else
+    -- what is read without a frame entry is listed: ends of frame entries
     pub no-frame-read : {cell : Cell} → Among cell (reads (view lent) starting) → ListedTo setup lent noFrameEntry cell
     unfolding lineTableOf
     no-frame-read {cell} here =
@@ -152,7 +155,7 @@ module _ (setup : Setup) (lent : Lent) where
         let at = refused-look-up-read (tableView (lent .table)) (numbered (NoFrameEntry (setup .y))) yend lineTable (frameEntries (setup .lengths .table)) (setup .y) (lacks .none) (found .here) in
         subst (ListedTo setup lent noFrameEntry) (sym (found .is ∙ ap ofTable (at .is))) (record { on = lacks .on; within = at .below })
 
-    -- and every end is read
+    -- without a frame entry every end is read
     pub no-frame-listed : (number : ℕ) → number < frameEntries (setup .lengths .table) → Among (ofTable (yend number)) (reads (view lent) starting)
     unfolding lineTableOf
     no-frame-listed number below =

@@ -25,7 +25,7 @@ use Rattle.line_reads.proofs.AllListed.{listed-reads}
 use Rattle.line_reads.proofs.ByList.{line-rests-on-list}
 use Rattle.line_reads.proofs.Active.{window-active, colour-active, table-on}
 
--- a number that is not 0
+-- a number that is not 0 is above it
 positive : (n : ℕ) → (n ≡ 0 → ⊥) → 0 < n
 positive zero some = absurd (some refl)
 positive (suc n) some = omega arith
@@ -34,6 +34,7 @@ positive (suc n) some = omega arith
 fewer-bits : (word other low count wide : ℕ) → count ≤ wide → bits word low wide ≡ bits other low wide → bits word low count ≡ bits other low count
 fewer-bits word other low count wide fits same = fewer word ∙ ap (λ (part : ℕ). part % 2 ^ count) same ∙ sym (fewer other)
   where
+    -- fewer bits are the rest of more bits by a power of two
     fewer : (w : ℕ) → bits w low count ≡ bits w low wide % 2 ^ count
     fewer w =
         let part : wide - count + count ≡ wide = omega arith in
@@ -47,6 +48,7 @@ module _ (setup : Setup) (lent : Lent) where
       → lineOf setup lent ≡ lineOf setup other
   by-colours other tables windows colours = line-rests-on-list setup lent other by
     where
+      -- the two lents agree on each kind of cell
       by : AgreeOnList setup lent other
       by (ofTable cell) listed = tables cell listed
       by (windowEntry id) listed = windows id listed
@@ -59,6 +61,7 @@ module _ (setup : Setup) (lent : Lent) where
     pub normal-rests : SameSeen setup lent row → lineOf setup lent ≡ lineOf setup (withNormal lent row)
     normal-rests same = by-colours (withNormal lent row) (λ cell listed. refl) (λ id listed. refl) by
       where
+        -- of the cells that a pixel shows only samples are of the normal row
         by : (cell : PixelCell) → PixelListed setup lent cell → view lent (ofColour cell) ≡ view (withNormal lent row) (ofColour cell)
         by (glyph r c) listed = refl
         by (cursorColour number) listed = refl
@@ -71,25 +74,26 @@ module _ (setup : Setup) (lent : Lent) where
         by (mapEntry number) listed = refl
         by (gamma channel number) listed = refl
 
-    -- another back buffer
+    -- another back buffer changes nothing
     pub other-back-buffer : SameChosen setup lent row → lineOf setup lent ≡ lineOf setup (withNormal lent row)
     other-back-buffer same = normal-rests (λ x active entry has clear under. same x active entry has)
 
-    -- the same where each window takes half a pixel: the other halves
+    -- where each window takes half a pixel, other halves change nothing
     pub other-halves : SameHalves setup lent row → lineOf setup lent ≡ lineOf setup (withNormal lent row)
     other-halves same =
         other-back-buffer (λ x active entry has.
         fewer-bits (pixelWord (setup .controls .depth) (lent .normal) x) (pixelWord (setup .controls .depth) row x) (entry .low)
         (widthsOf (entry .format) .bits) (setup .controls .depth / 2) (same x active entry has .0) (same x active entry has .1))
 
-    -- other samples under an opaque overlay or cursor
+    -- other samples under an opaque overlay or cursor change nothing
     pub other-covered-samples : SameUncovered setup lent row → lineOf setup lent ≡ lineOf setup (withNormal lent row)
     other-covered-samples same = normal-rests (λ x active entry has clear under. ap (sampleOf entry) (same x active entry has clear under))
 
-    -- other overlay bytes under an opaque cursor, or where overlay doesn't count
+    -- other overlay bytes under an opaque cursor, or where overlay doesn't count, change nothing
     pub other-overlay : SameOverlaid setup lent row → lineOf setup lent ≡ lineOf setup (withOverlay lent row)
     other-overlay same = by-colours (withOverlay lent row) (λ cell listed. refl) (λ id listed. refl) by
       where
+        -- of the cells that a pixel shows only the overlay byte is of the overlay row
         by : (cell : PixelCell) → PixelListed setup lent cell → view lent (ofColour cell) ≡ view (withOverlay lent row) (ofColour cell)
         by (glyph r c) listed = refl
         by (cursorColour number) listed = refl
@@ -100,19 +104,20 @@ module _ (setup : Setup) (lent : Lent) where
         by (mapEntry number) listed = refl
         by (gamma channel number) listed = refl
 
-    -- any overlay row where overlay is off
+    -- where overlay is off, any overlay row has the same outcome
     pub overlay-off : setup .controls .overlay ≡ false → lineOf setup lent ≡ lineOf setup (withOverlay lent row)
     overlay-off off = other-overlay (λ x active entry has clear counts. impossible (cc (rw off at counts)))
 
   -- ---- the store
 
   module _ (store : List ℕ) where
-    -- other windows that are not on the line, other colours that no pixel shows, other bits that are not kept
+    -- other windows that are not on the line, other colours that no pixel shows and other bits that are not kept change nothing
     pub other-unused : SameCounting setup lent store → lineOf setup lent ≡ lineOf setup (withStore lent store)
     other-unused same =
         by-colours (withStore lent store) (λ cell listed. refl)
         (λ id listed. same (record { block = WindowEntries; word = id }) (window-active setup lent id listed)) by
       where
+        -- each cell of the store that a pixel shows is part of a word that counts
         by : (cell : PixelCell) → PixelListed setup lent cell → view lent (ofColour cell) ≡ view (withStore lent store) (ofColour cell)
         by (glyph r c) listed =
             ap (λ (word : ℕ). bits word (30 - 2 * (c % 16)) 2)
@@ -130,11 +135,11 @@ module _ (setup : Setup) (lent : Lent) where
   -- ---- the table
 
   module _ (table : List ℕ) where
-    -- other entries that the line doesn't read, and other bits that are ignored
+    -- other entries that the line doesn't read, and other bits that are ignored, change nothing
     pub other-ignored-bits : SameFields setup lent table → lineOf setup lent ≡ lineOf setup (withTable lent table)
     other-ignored-bits same = by-colours (withTable lent table) same (λ id listed. refl) (λ cell listed. refl)
 
-    -- any table where window IDs are off
+    -- where window IDs are off, any table has the same outcome
     pub other-table : setup .controls .ids ≡ false → lineOf setup lent ≡ lineOf setup (withTable lent table)
     other-table off =
         by-colours (withTable lent table) (λ cell listed. impossible (cc (table-on setup lent cell listed))) (λ id listed. refl) (λ cell listed. refl)
@@ -146,6 +151,7 @@ module _ (setup : Setup) (lent : Lent) where
       → lineOf setup (lentOf store (lent .table) normal overlay) ≡ refused refusal
   refused-rests e store normal overlay same = sym (line-rests-on-list setup lent (lentOf store (lent .table) normal overlay) by) ∙ e
     where
+      -- of what a refused line lists only window entries are of what may be otherwise
       by : AgreeOnList setup lent (lentOf store (lent .table) normal overlay)
       by (ofTable cell) listed = refl
       by (windowEntry id) listed = same id listed

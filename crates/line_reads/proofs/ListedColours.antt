@@ -23,7 +23,7 @@ use Rattle.line_reads.specs.ColourList.{cursorHere, overlayHere, usedCel
 use Rattle.line_reads.proofs.Colours.{cursor-here, overlay-here, normal-here}
 
 module _ (memory : PixelCell → ℕ) where
-  -- each channel's byte of the gamma word that it hits
+  -- a colour that goes through gamma reads each channel's byte of the gamma word that it hits
   gamma-hit : (skips : Bool) → skips ≡ false → (channel : Channel) (word : ℕ)
       → Among (gamma channel (channelIn channel (channelsOf word))) (reads memory (throughGamma skips word))
   unfolding throughGamma
@@ -33,50 +33,50 @@ module _ (memory : PixelCell → ℕ) where
   gamma-hit false e inBlue word = List·Memᴰ·tail (List·Memᴰ·tail (List·Memᴰ·head refl))
 
   module _ (screen : Screen) (entry : WindowEntry) (x : ℕ) where
-    -- what is read where the cursor is transparent
+    -- where the cursor is transparent, what is read under it is read for the colour
     under : cursorHere memory screen entry x ≡ 0 → {cell : PixelCell} → Among cell (reads memory (underCursor screen entry x))
         → Among cell (reads memory (colourOfPixel screen entry x))
     unfolding colourOfPixel
     under transparent {cell} here = value-read memory (cursorAt screen x) _ (inr (rw (eq-eqb _ _ transparent) here))
 
-    -- what is read where it shows
+    -- where the cursor shows, what is read of its colour is read for the colour
     shown : cursorHere memory screen entry x ≢ 0 → {cell : PixelCell} → Among cell (reads memory (cursorShown screen entry (cursorHere memory screen entry x)))
         → Among cell (reads memory (colourOfPixel screen entry x))
     unfolding colourOfPixel
     shown shows here = value-read memory (cursorAt screen x) _ (inr (rw (ne-eqb _ _ shows) here))
 
-    -- what is read where overlay is transparent too
+    -- where overlay is transparent too, what is read of the normal colour is read under the cursor
     plain : overlayHere memory screen entry x ≡ 0 → {cell : PixelCell} → Among cell (reads memory (plainAt (screen .depth) entry x))
         → Among cell (reads memory (underCursor screen entry x))
     unfolding underCursor
     plain clear here = value-read memory (overlayAt screen entry x) _ (inr (rw (eq-eqb _ _ clear) here))
 
-    -- what is read where overlay shows
+    -- where overlay shows, what is read of its colour is read under the cursor
     over : overlayHere memory screen entry x ≢ 0 → {cell : PixelCell} → Among cell (reads memory (overlaid entry (overlayHere memory screen entry x)))
         → Among cell (reads memory (underCursor screen entry x))
     unfolding underCursor
     over shows here = value-read memory (overlayAt screen entry x) _ (inr (rw (ne-eqb _ _ shows) here))
 
-    -- the glyph's cell
+    -- the cell of the glyph that is listed is read
     glyph-listed : {row column : ℕ} → GlyphListed memory screen entry x row column → Among (glyph row column) (reads memory (colourOfPixel screen entry x))
     unfolding colourOfPixel cursorAt
     glyph-listed listed =
         value-read memory (cursorAt screen x) _
         (inl (rw (listed .inside, listed .on, listed .no-crosshair, listed .at-row, listed .at-column) (List·Memᴰ·head refl)))
 
-    -- the cursor colour shown
+    -- the cursor colour that is listed is read
     cursor-listed : {number : ℕ} → CursorColourListed memory screen entry x number → Among (cursorColour number) (reads memory (colourOfPixel screen entry x))
     unfolding cursorShown
     cursor-listed listed = shown (listed .shows) (List·Memᴰ·head (ap cursorColour (listed .shown)))
 
-    -- the overlay byte
+    -- the overlay byte that is listed is read
     overlay-listed : {pixel : ℕ} → OverlayListed memory screen entry x pixel → Among (overlayByte pixel) (reads memory (colourOfPixel screen entry x))
     unfolding underCursor overlayAt
     overlay-listed listed =
         under (listed .transparent)
         (value-read memory (overlayAt screen entry x) _ (inl (rw (listed .counts) (List·Memᴰ·head (ap overlayByte (listed .here))))))
 
-    -- the used bits
+    -- the used bits that are listed are read
     sample-listed : {cell : PixelCell} → SampleListed memory screen entry x cell → Among cell (reads memory (colourOfPixel screen entry x))
     unfolding plainAt normalAt
     sample-listed listed =
@@ -84,13 +84,13 @@ module _ (memory : PixelCell → ℕ) where
         (plain (listed .overlay-transparent) (value-read memory (normalAt (screen .depth) entry x) _ (inl (List·Memᴰ·head (listed .used)))))
 
     module _ {number : ℕ} where
-      -- the map entry that overlay hits
+      -- the map entry that overlay hits is read
       map-by-overlay : overlayHere memory screen entry x ≢ 0 → number ≡ overlayColours + overlayHere memory screen entry x
           → Among (mapEntry number) (reads memory (underCursor screen entry x))
       unfolding overlaid
       map-by-overlay shows hit = over shows (List·Memᴰ·head (ap mapEntry hit))
 
-      -- the map entry that the sample hits
+      -- the map entry that the sample hits is read
       map-by-sample : overlayHere memory screen entry x ≡ 0 → shownOf entry (memory (usedCell memory screen entry x)) ≡ MapEntry number
           → Among (mapEntry number) (reads memory (underCursor screen entry x))
       unfolding plainAt normalAt
@@ -99,40 +99,41 @@ module _ (memory : PixelCell → ℕ) where
           (value-read memory (normalAt (screen .depth) entry x) _
           (inl (List·Memᴰ·tail (subst (λ (shown : Shown). Among (mapEntry number) (reads memory (shownColour shown))) (sym hit) (List·Memᴰ·head refl)))))
 
-      -- the map entry hit
+      -- the map entry that is listed is read
       map-listed : MapListed memory screen entry x number → Among (mapEntry number) (reads memory (colourOfPixel screen entry x))
       map-listed listed =
           under (listed .transparent) (⊎-elim (λ hit. map-by-overlay (hit .0) (hit .1)) (λ hit. map-by-sample (hit .0) (hit .1)) (listed .hit))
 
     module _ {channel : Channel} {number : ℕ} (listed : GammaListed memory screen entry x (channelIn channel (channelsOf (beforeGamma memory screen entry x))) number) where
-      -- the gamma word of the colour of the layer that shows
+      -- the gamma word that is listed is read for the colour of the layer that shows
       gamma-of : (layer : Layer) → layerHere memory screen entry x ≡ layer
           → Among (gamma channel number) (reads memory (throughGamma (skipsGamma screen entry layer) (colourOfLayer memory screen entry x layer)))
       gamma-of layer is =
           Memᴰ·cast (ap (gamma channel) (listed .hit ∙ ap (λ (l : Layer). channelIn channel (channelsOf (colourOfLayer memory screen entry x l))) is))
           (gamma-hit (skipsGamma screen entry layer) (sym (ap (skipsGamma screen entry) is) ∙ listed .through) channel (colourOfLayer memory screen entry x layer))
 
-      -- where the cursor shows
+      -- it is read for the pixel where the cursor shows
       gamma-by-cursor : cursorHere memory screen entry x ≢ 0 → Among (gamma channel number) (reads memory (colourOfPixel screen entry x))
       unfolding cursorShown
       gamma-by-cursor shows = shown shows (List·Memᴰ·tail (gamma-of ofCursor (cursor-here memory screen entry x shows)))
 
       module _ (transparent : cursorHere memory screen entry x ≡ 0) where
-        -- where overlay does
+        -- it is read under the cursor where overlay shows
         gamma-by-overlay : overlayHere memory screen entry x ≢ 0 → Among (gamma channel number) (reads memory (underCursor screen entry x))
         unfolding overlaid
         gamma-by-overlay shows = over shows (List·Memᴰ·tail (gamma-of ofOverlay (overlay-here memory screen entry x transparent shows)))
 
-        -- where the normal colour does
+        -- it is read under the cursor where the normal colour shows
         gamma-by-sample : overlayHere memory screen entry x ≡ 0 → Among (gamma channel number) (reads memory (underCursor screen entry x))
         unfolding plainAt
         gamma-by-sample clear =
             plain clear (value-read memory (normalAt (screen .depth) entry x) _ (inr (gamma-of ofNormal (normal-here memory screen entry x transparent clear))))
 
-      -- the gamma word hit
+      -- the gamma word that is listed is read for the pixel
       gamma-listed : Among (gamma channel number) (reads memory (colourOfPixel screen entry x))
       gamma-listed = by (eqb (cursorHere memory screen entry x) 0) (eqb (overlayHere memory screen entry x) 0) refl refl
         where
+          -- the colour that goes through gamma is that of the layer that shows
           by : (transparent clear : Bool) → eqb (cursorHere memory screen entry x) 0 ≡ transparent → eqb (overlayHere memory screen entry x) 0 ≡ clear
               → Among (gamma channel number) (reads memory (colourOfPixel screen entry x))
           by false clear e f = gamma-by-cursor (eqb-false _ _ e)

@@ -87,7 +87,7 @@ module _ (setup : Setup) (lent : Lent) {start : ℕ} (started : run (view lent) 
   pub same-start : {other : ℕ} → StartsAt setup lent other → other ≡ start
   same-start starts = cc (starts-found setup lent starts, started)
 
-  -- the end of a line entry that is searched
+  -- the end of a line entry that is searched is read by the last pixel met, or by a search of all
   line-listed : (reach : Reach) (number : ℕ) → setup .controls .ids ≡ true → (lines : Search) → reach .lines ≡ lines
       → Searched setup lent lines (reach .met) start number → ReadFor reach (ofTable (endOf start number))
   line-listed reach number on toTheOneFound is listed =
@@ -95,7 +95,7 @@ module _ (setup : Setup) (lent : Lent) {start : ℕ} (started : run (view lent) 
       (read-pixel setup lent start (listed .last) (pixel-end on (listed .entry) (listed .found) number (listed .up-to) refl))
   line-listed reach number on throughAll is listed = for-search is number listed refl
 
-  -- the ID in a pixel's line entry
+  -- the ID in the line entry of a pixel met is read by the pixel
   id-listed : (reach : Reach) {byte : ℕ} → IdListed setup lent (reach .met) byte → ReadFor reach (ofTable (windowId byte))
   id-listed reach {byte} listed =
       let same = same-start (listed .starts) in
@@ -104,13 +104,13 @@ module _ (setup : Setup) (lent : Lent) {start : ℕ} (started : run (view lent) 
       (pixel-id (listed .starts .on) (listed .entry) (rw (← same) (listed .found))
       (ap (λ (at : ℕ). ofTable (windowId at)) (listed .stands ∙ ap (λ (from : ℕ). entryByte from (listed .entry)) same))))
 
-  -- the window entry of a pixel's ID
+  -- the window entry of the ID of a pixel met is read by the pixel
   window-listed : (reach : Reach) {id : ℕ} → WindowListed setup lent (reach .met) id → ReadFor reach (windowEntry id)
   window-listed reach {id} listed =
       for-pixel (listed .pixel) (listed .is-met)
       (read-pixel setup lent start (listed .pixel) (pixel-window id (sym (run-ok (view lent) (starting setup lent) _ started) ∙ listed .has) refl))
 
-  -- a cell of a colour
+  -- a cell of a colour is read for that, where there are colours
   colours-listed : (reach : Reach) {cell : PixelCell} (coloured : Bool) → reach .coloured ≡ coloured → ColoursListed setup lent coloured cell
       → ReadFor reach (ofColour cell)
   colours-listed reach {cell} true is listed = for-colour is cell listed refl

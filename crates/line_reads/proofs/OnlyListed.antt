@@ -50,6 +50,7 @@ module _ (setup : Setup) (lent : Lent) where
     unfolding entriesOf
     answered-read {cell} here = by (read-either (view lent) (starting setup lent) _ here)
       where
+        -- a cell is read to find the line table, or by an active pixel
         by : Read (view lent) (starting setup lent) passing cell → ListedTo setup lent whole cell
         by (by-first there) = start-read setup lent whole refl (both (view lent) (starting setup lent) passing e .found) there
         by (by-second start started there) =
@@ -77,7 +78,7 @@ module _ (setup : Setup) (lent : Lent) where
 
   -- ---- a first pass that refuses
 
-  -- there is no line table
+  -- what is read without a frame entry is listed for 7
   no-table-read : {refusal : Numbered} → NoFrame setup lent refusal → run (view lent) (starting setup lent) ≡ refused refusal
       → {cell : Cell} → Read (view lent) (starting setup lent) passing cell → RefusedListed setup lent refusal cell
   no-table-read lacks none (by-first there) = of-7 (frame-number setup lent lacks) (no-frame-read setup lent lacks there)
@@ -89,10 +90,11 @@ module _ (setup : Setup) (lent : Lent) where
     ids-before : AllIds setup lent started (at .position)
     ids-before = λ i below. entry-id setup lent start i (at .earlier i (omega arith) below .1)
 
-    -- and the one that is refused too, where it is for its window entry
+    -- the pixel that is refused has an ID too, where it is refused for its window entry
     ids-up-to : {id : ℕ} → run (view lent) (identifying setup lent start (at .position)) ≡ ok id → AllIds setup lent started (suc (at .position))
     ids-up-to {id} found = λ i below. ⊎-elim (λ same. (id, rw same found)) (λ before. ids-before i before) (eq-or-lt-of-le (le-of-lt-suc below))
       where
+        -- what is below the next number is not above this one
         le-of-lt-suc : {i n : ℕ} → i < suc n → i ≤ n
         le-of-lt-suc h = omega arith
 
@@ -149,6 +151,7 @@ module _ (setup : Setup) (lent : Lent) where
   unfolding entriesOf
   refused-read {refusal} e {cell} here = by (either (view lent) (starting setup lent) passing e) (read-either (view lent) (starting setup lent) passing here)
     where
+      -- the line has no frame entry, or a pixel of it is refused
       by : Either (view lent) (starting setup lent) passing refusal → Read (view lent) (starting setup lent) passing cell → RefusedListed setup lent refusal cell
       by (at-first none) there = no-table-read (no-frame setup lent none) none there
       by (at-second start started stops) there =
@@ -173,16 +176,19 @@ module _ (setup : Setup) (lent : Lent) where
   pub reads-listed : (cell : Cell) → List·Memᴰ cell (reads (view lent) (lineRule setup)) → Listed setup lent cell
   reads-listed cell here = by-verdict (verdict (lineFaults setup)) refl
     where
+      -- of a line whose first pass answers, what either pass reads is listed
       by-answer : {entries : List WindowEntry} → run (view lent) (entriesOf setup) ≡ ok entries → Read (view lent) (entriesOf setup) (coloursOf setup) cell
           → ListedTo setup lent whole cell
       by-answer e (by-first there) = answered-read e there
       by-answer e (by-second entries found there) = colours-read found there
 
+      -- of a line whose first pass is refused, what that pass reads is listed, and there is no second
       by-refusal : {refusal : Numbered} → run (view lent) (entriesOf setup) ≡ refused refusal → Read (view lent) (entriesOf setup) (coloursOf setup) cell
           → RefusedListed setup lent refusal cell
       by-refusal e (by-first there) = refused-read e there
       by-refusal e (by-second entries found there) = impossible (cc)
 
+      -- a line whose first pass answers is drawn, any other is refused as that pass is
       by-entries : verdict (lineFaults setup) ≡ ok tt → Read (view lent) (entriesOf setup) (coloursOf setup) cell
           → (outcome : Outcome Numbered (List WindowEntry)) → run (view lent) (entriesOf setup) ≡ outcome → Listed setup lent cell
       by-entries fine there (ok entries) e =
@@ -190,6 +196,7 @@ module _ (setup : Setup) (lent : Lent) where
       by-entries fine there (refused refusal) e =
           subst (λ (outcome : Outcome Numbered (List ℕ)). ListedFor setup lent outcome cell) (sym (answered-refused fine e)) (by-refusal e there)
 
+      -- a line that is refused before anything is read reads nothing; any other has its two passes
       by-verdict : (outcome : Outcome Numbered (Unit {0})) → verdict (lineFaults setup) ≡ outcome → Listed setup lent cell
       by-verdict (refused refusal) early = absurd (List·Memᴰ·not-nil (subst (Among cell) (unread setup lent early) here))
       by-verdict (ok tt) fine =

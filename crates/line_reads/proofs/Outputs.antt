@@ -28,7 +28,7 @@ use Rattle.line_reads.proofs.Pixels.{entering}
 use Rattle.line_reads.proofs.OnlyListed.{passing}
 
 module _ (setup : Setup) (lent : Lent) where
-  -- as many colours as the active width
+  -- the two passes answer as many colours as the active width
   passes-length : {colours : List ℕ} → run (view lent) (entriesOf setup >>= coloursOf setup) ≡ ok colours → length colours ≡ setup .controls .width
   unfolding entriesOf coloursOf
   passes-length e =
@@ -40,6 +40,7 @@ module _ (setup : Setup) (lent : Lent) where
   pub colours-length : {colours : List ℕ} → lineOf setup lent ≡ ok colours → length colours ≡ setup .controls .width
   colours-length {colours} e = by (verdict (lineFaults setup)) refl
     where
+      -- a line that is drawn is not refused before anything is read, so it has its two passes
       by : (outcome : Outcome Numbered (Unit {0})) → verdict (lineFaults setup) ≡ outcome → length colours ≡ setup .controls .width
       by (refused refusal) early = impossible (cc (refused-unread setup lent early))
       by (ok tt) fine = passes-length (sym (passes setup lent fine) ∙ e)
@@ -54,6 +55,7 @@ module _ (request : Request) (lent : Lent) (output : List ℕ) where
   unfolding drawn
   drawn-line is-drawn = by (lineOf given lent) refl is-drawn
     where
+      -- a line that is refused doesn't answer that it is drawn
       by : (line : Outcome Numbered (List ℕ)) → lineOf given lent ≡ line → withoutColours line ≡ ok tt → (colours : List ℕ) × (lineOf given lent ≡ ok colours)
       by (ok colours) e is = (colours, e)
       by (refused refusal) e is = impossible (cc)
@@ -72,6 +74,7 @@ module _ (request : Request) (lent : Lent) (output : List ℕ) where
   unfolding drawn setupOf
   word-past x past = by (lineOf given lent) refl
     where
+      -- the colours of a drawn line end at the active width; a refused line leaves the output as it was
       by : (line : Outcome Numbered (List ℕ)) → lineOf given lent ≡ line → getD (outputAfter (given .controls .width) output line) x 0 ≡ getD output x 0
       by (ok colours) e =
           let width = given .controls .width in
@@ -89,6 +92,7 @@ module _ (request : Request) (lent : Lent) (output : List ℕ) where
   unfolding setupOf
   line-fits {colours} e = by (verdict (lineFaults given)) refl
     where
+      -- a line that is drawn has no wrong length, and so an output that is long enough
       by : (outcome : Outcome Numbered (Unit {0})) → verdict (lineFaults given) ≡ outcome → given .controls .width ≤ length output
       by (ok tt) fine = fitted given fine .output-right
       by (refused refusal) early = impossible (cc (refused-unread given lent early))
@@ -98,6 +102,7 @@ module _ (request : Request) (lent : Lent) (output : List ℕ) where
   unfolding drawn
   output-length = by (lineOf given lent) refl
     where
+      -- the colours of a drawn line stand in place of as many words; a refused line leaves the output as it was
       by : (line : Outcome Numbered (List ℕ)) → lineOf given lent ≡ line → length (outputAfter (given .controls .width) output line) ≡ length output
       by (ok colours) e =
           let width = given .controls .width in

@@ -54,6 +54,7 @@ module _ (setup : Setup) (lent : Lent) where
       → (x : ℕ) → x < setup .controls .width → HasColour setup lent x (getD colours x 0)
   pixel-colour {colours} e x active = by (verdict (lineFaults setup)) refl
     where
+      -- a line that is drawn is not refused before anything is read, so it has its two passes
       by : (outcome : Outcome Numbered (Unit {0})) → verdict (lineFaults setup) ≡ outcome → HasColour setup lent x (getD colours x 0)
       by (refused refusal) early = impossible (cc (refused-unread setup lent early))
       by (ok tt) fine = passes-colour (sym (passes setup lent fine) ∙ e) x active

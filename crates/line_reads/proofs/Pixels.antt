@@ -39,18 +39,18 @@ module _ (setup : Setup) (lent : Lent) (start : ℕ) where
     pixel-window : (id : ℕ) → run (view lent) (identifying setup lent start x) ≡ ok id → cell ≡ windowEntry id → OfPixel x cell
 
   module _ (on : setup .controls .ids ≡ true) (x : ℕ) where
-    -- what comes of the pixel's ID
+    -- what comes of the pixel's ID comes of the look-up in the table
     pub id-run : run (view lent) (identifying setup lent start x) ≡ run (tableView (lent .table)) (idOf (setup .lengths .table) start x)
     id-run = rw (id-on setup lent on start x) (run-in-table lent (idOf (setup .lengths .table) start x))
 
-    -- what is read for it is read of the table
+    -- what is read for the ID is read of the table
     id-inner : {cell : Cell} → Among cell (reads (view lent) (identifying setup lent start x))
         → Becomes ofTable (reads (tableView (lent .table)) (idOf (setup .lengths .table) start x)) cell
     id-inner {cell} here =
         read-within (λ (refusal : Numbered). refusal) ofTable (view lent) (idOf (setup .lengths .table) start x)
         (subst (λ (rule : Rule Numbered Cell ℕ). Among cell (reads (view lent) rule)) (id-on setup lent on start x) here)
 
-    -- and the other way round
+    -- what the look-up in the table reads is read for the ID
     inner-id : {inner : TableCell} → Among inner (reads (tableView (lent .table)) (idOf (setup .lengths .table) start x))
         → Among (ofTable inner) (reads (view lent) (identifying setup lent start x))
     inner-id {inner} here =
@@ -63,7 +63,7 @@ module _ (setup : Setup) (lent : Lent) (start : ℕ) where
     entry-of e =
         let two = both (tableView (lent .table)) (lineEntryOf (setup .lengths .table) start x) _ (sym id-run ∙ e) in (two .first, two .found)
 
-    -- what is read for an ID that is found
+    -- with window IDs on, what is read for an ID that is found is one of the pixel's cells
     id-cells : {id : ℕ} → run (view lent) (identifying setup lent start x) ≡ ok id → {cell : Cell}
         → Among cell (reads (view lent) (identifying setup lent start x)) → OfPixel x cell
     unfolding idOf
@@ -73,6 +73,7 @@ module _ (setup : Setup) (lent : Lent) (start : ℕ) where
         (look-up-read (tableView (lent .table)) (numbered (NoLineEntry x)) (endOf start) (idCell start) (lineEntries (setup .lengths .table) start) x
         (sym id-run ∙ e) (found .here))
       where
+        -- a cell that the look-up reads is an end up to that of the pixel's entry, or the ID in that
         by : {inner : TableCell} → cell ≡ ofTable inner
             → LookedUpCell (tableView (lent .table)) (numbered (NoLineEntry x)) (endOf start) (idCell start) (lineEntries (setup .lengths .table) start) x inner
             → OfPixel x cell
@@ -80,11 +81,12 @@ module _ (setup : Setup) (lent : Lent) (start : ℕ) where
         by is (its-cell entry at same) = pixel-id on entry at (is ∙ ap ofTable same)
 
   module _ (x : ℕ) where
-    -- the same, whether window IDs are on or not
+    -- what is read for an ID that is found is one of the pixel's cells, whether window IDs are on or not
     id-read : {id : ℕ} → run (view lent) (identifying setup lent start x) ≡ ok id → {cell : Cell}
         → Among cell (reads (view lent) (identifying setup lent start x)) → OfPixel x cell
     id-read e {cell} here = by (setup .controls .ids) refl
       where
+        -- with window IDs on the table is looked up, with them off nothing is read
         by : (test : Bool) → setup .controls .ids ≡ test → OfPixel x cell
         by true on = id-cells on x e here
         by false off =
@@ -100,6 +102,7 @@ module _ (setup : Setup) (lent : Lent) (start : ℕ) where
     unfolding windowEntryAt
     pixel-read e {cell} here = by (read-either (view lent) (identifying setup lent start x) _ here)
       where
+        -- a cell is read for the ID, or it is the window entry of that
         by : Read (view lent) (identifying setup lent start x)
             (λ id. get (windowEntry id) >>= (λ word. definedAt x (decoded word (setup .controls .depth)))) cell → OfPixel x cell
         by (by-first there) = id-read e there
@@ -119,10 +122,11 @@ module _ (setup : Setup) (lent : Lent) (start : ℕ) where
       pub on : setup .controls .ids ≡ true
       pub none : run (tableView (lent .table)) (idOf (setup .lengths .table) start x) ≡ refused refusal
 
-    -- a refused look-up is such
+    -- a pixel whose ID is refused has none
     no-id : {refusal : Numbered} → run (view lent) (identifying setup lent start x) ≡ refused refusal → NoId refusal
     no-id {refusal} e = by (setup .controls .ids) refl
       where
+        -- with window IDs on it is the look-up that refuses, with them off nothing is refused
         by : (test : Bool) → setup .controls .ids ≡ test → NoId refusal
         by true on = record { on = on; none = sym (id-run on x) ∙ e }
         by false off = impossible (cc (id-off setup lent off start x))
@@ -132,21 +136,22 @@ module _ (setup : Setup) (lent : Lent) (start : ℕ) where
       without-id : NoId refusal → refusal .number ≡ 8 → placeIn refusal ≡ x → RefusedPixel refusal
       undefined : (id : ℕ) → run (view lent) (identifying setup lent start x) ≡ ok id → refusal .number ≡ 9 → placeIn refusal ≡ x → RefusedPixel refusal
 
-    -- the refusal is then 8
+    -- a pixel without an ID is refused by 8
     id-refusal : {refusal : Numbered} → NoId refusal → refusal ≡ numbered (NoLineEntry x)
     unfolding idOf
     id-refusal lacks =
         refusal-named (tableView (lent .table)) (numbered (NoLineEntry x)) (endOf start) (idCell start) (lineEntries (setup .lengths .table) start) x (lacks .none)
 
-    -- an undefined entry is 9
+    -- a window entry that refuses does so by 9
     said-refusal : (said : Decoded) {refusal : Numbered} → run (view lent) (definedAt x said) ≡ refused refusal → refusal ≡ numbered (UndefinedEntry x)
     said-refusal said e = refuses-undefined (view lent) x said e .1
 
-    -- there is no other reason
+    -- a pixel is refused for no other reason
     pub pixel-refused : {refusal : Numbered} → run (view lent) (entering x) ≡ refused refusal → RefusedPixel refusal
     unfolding windowEntryAt
     pixel-refused {refusal} e = by (either (view lent) (identifying setup lent start x) _ e)
       where
+        -- the look-up of the ID refuses, or what the window entry says
         by : Either (view lent) (identifying setup lent start x)
             (λ id. get (windowEntry id) >>= (λ word. definedAt x (decoded word (setup .controls .depth)))) refusal → RefusedPixel refusal
         by (at-first none) =
@@ -162,6 +167,7 @@ module _ (setup : Setup) (lent : Lent) (start : ℕ) where
       unfolding windowEntryAt idOf
       no-id-read {cell} here = by (read-either (view lent) (identifying setup lent start x) _ here)
         where
+          -- the look-up reads all ends, and without an ID nothing is read behind it
           by : Read (view lent) (identifying setup lent start x)
               (λ id. get (windowEntry id) >>= (λ word. definedAt x (decoded word (setup .controls .depth)))) cell
               → (number : ℕ) × ((number < lineEntries (setup .lengths .table) start) × (cell ≡ ofTable (endOf start number)))
@@ -171,7 +177,7 @@ module _ (setup : Setup) (lent : Lent) (start : ℕ) where
               (at .number, (at .below, found .is ∙ ap ofTable (at .is)))
           by (by-second id found there) = impossible (cc (id-run (lacks .on) x, lacks .none))
 
-      -- and each of them is read
+      -- a pixel without an ID reads every end of the line table
       pub read-no-id : (number : ℕ) → number < lineEntries (setup .lengths .table) start → Among (ofTable (endOf start number)) (reads (view lent) (entering x))
       unfolding windowEntryAt idOf
       read-no-id number below =
@@ -181,7 +187,7 @@ module _ (setup : Setup) (lent : Lent) (start : ℕ) where
 
     -- ---- what a pixel with an ID reads
 
-    -- each of its cells is read
+    -- each cell of a pixel that has an ID is read
     pub read-pixel : {cell : Cell} → OfPixel x cell → Among cell (reads (view lent) (entering x))
     unfolding windowEntryAt idOf
     read-pixel (pixel-end on entry found number up-to is) =

@@ -36,14 +36,14 @@ module _ (setup : Setup) (lent : Lent) where
   -- ---- a line that is refused has its reason
 
   module _ (clear : Clear (lineFaults setup)) where
-    -- without a line table: 7
+    -- a line without a frame entry has the reason for 7
     for-frame : {refusal : Numbered} → NoFrame setup lent refusal → Reason setup lent refusal
     for-frame lacks =
         let none = table-unanswered (tableView (lent .table)) (setup .lengths .table) (setup .y) (lacks .none) in
         no-frame-entry clear (record { on = lacks .on; none = none .none }) (none .named)
 
     module _ {start : ℕ} (started : run (view lent) (starting setup lent) ≡ ok start) where
-      -- at a pixel: 8 or 9
+      -- a pixel that is refused is the reason for 8 or 9
       for-pixel : (x : ℕ) {refusal : Numbered} → ComesTo setup lent x → run (view lent) (entering setup lent start x) ≡ refused refusal
           → RefusedPixel setup lent start x refusal → Reason setup lent refusal
       unfolding windowEntryAt
@@ -68,17 +68,18 @@ module _ (setup : Setup) (lent : Lent) where
           })
           (at .stops) (pixel-refused setup lent start (at .position) (at .stops))
 
-    -- in the first pass
+    -- a first pass that is refused has a reason
     for-entries : {refusal : Numbered} → run (view lent) (entriesOf setup) ≡ refused refusal → Reason setup lent refusal
     unfolding entriesOf
     for-entries {refusal} e = by (either (view lent) (starting setup lent) (passing setup lent) e)
       where
+        -- the line has no frame entry, or a pixel of it is refused
         by : Either (view lent) (starting setup lent) (passing setup lent) refusal → Reason setup lent refusal
         by (at-first none) = for-frame (no-frame setup lent none)
         by (at-second start started stops) =
             for-pass started (each-stops (view lent) (entering setup lent start) (setup .controls .width) 0 stops)
 
-    -- the second pass refuses nothing
+    -- two passes that are refused have a reason: the second refuses nothing
     for-passes : {refusal : Numbered} → Either (view lent) (entriesOf setup) (coloursOf setup) refusal → Reason setup lent refusal
     for-passes (at-first e) = for-entries e
     for-passes (at-second entries found e) = absurd (never-refused (view lent) (coloursOf setup entries) (never-colours setup entries) e)
@@ -87,6 +88,7 @@ module _ (setup : Setup) (lent : Lent) where
   pub refused-for : {refusal : Numbered} → lineOf setup lent ≡ refused refusal → Reason setup lent refusal
   refused-for {refusal} e = by (verdict (lineFaults setup)) refl
     where
+      -- a line is refused before anything is read, or in its passes
       by : (outcome : Outcome Numbered (Unit {0})) → verdict (lineFaults setup) ≡ outcome → Reason setup lent refusal
       by (refused other) early =
           at-once (first-verdict (lineFaults setup) refusal (let same : other ≡ refusal = cc (refused-unread setup lent early, e) in early ∙ ap refused same))
@@ -95,7 +97,7 @@ module _ (setup : Setup) (lent : Lent) where
 
   -- ---- a line that has a reason is refused so
 
-  -- 7
+  -- a line that no frame entry serves is refused by 7
   frame-refuses : NoFrameServes setup lent → run (view lent) (entriesOf setup) ≡ refused (numbered (NoFrameEntry (setup .y)))
   unfolding entriesOf
   frame-refuses none =
@@ -116,7 +118,7 @@ module _ (setup : Setup) (lent : Lent) where
       let found = comes .earlier i (omega arith) in (found .0, sym (run-ok (view lent) (starting setup lent) _ started) ∙ found .1))
       stops
 
-  -- 8
+  -- a line that comes to a pixel that no line entry serves is refused by 8
   id-refuses : (x : ℕ) → ComesTo setup lent x → NoLineEntryServes setup lent x → run (view lent) (entriesOf setup) ≡ refused (numbered (NoLineEntry x))
   unfolding windowEntryAt
   id-refuses x comes none =
@@ -126,7 +128,7 @@ module _ (setup : Setup) (lent : Lent) where
       ∙ id-of-none (tableView (lent .table)) (setup .lengths .table) (none .start) x
       (whole-misses (tableView (lent .table)) _ (endOf (none .start)) (lineEntries (setup .lengths .table) (none .start)) x (none .none))))
 
-  -- 9
+  -- a line that comes to a pixel whose window entry is undefined is refused by 9
   entry-refuses : (x : ℕ) → ComesTo setup lent x → UndefinedAt setup lent x → run (view lent) (entriesOf setup) ≡ refused (numbered (UndefinedEntry x))
   unfolding windowEntryAt
   entry-refuses x comes at =
@@ -158,6 +160,7 @@ module _ (setup : Setup) (lent : Lent) where
   pub without-drawn : ((refusal : Numbered) → Reason setup lent refusal → ⊥) → (colours : List ℕ) × (lineOf setup lent ≡ ok colours)
   without-drawn none = by (lineOf setup lent) refl
     where
+      -- a line is drawn or refused, and it isn't refused without a reason
       by : (outcome : Outcome Numbered (List ℕ)) → lineOf setup lent ≡ outcome → (colours : List ℕ) × (lineOf setup lent ≡ ok colours)
       by (ok colours) e = (colours, e)
       by (refused refusal) e = absurd (none refusal (refused-for e))

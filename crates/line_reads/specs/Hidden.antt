@@ -23,19 +23,19 @@ use Rattle.line_reads.specs.TableList.{HasEntry, WindowListed}
 use Rattle.line_reads.specs.ColourList.{cursorHere, overlayHere}
 use Rattle.line_reads.specs.Listed.{PixelListed, Listed}
 
--- the same with another store
+-- what is lent, with this store in place of its own
 abbrev pub withStore : Lent → List ℕ → Lent
 withStore lent store = lentOf store (lent .table) (lent .normal) (lent .overlay)
 
--- with another table
+-- what is lent, with this table in place of its own
 abbrev pub withTable : Lent → List ℕ → Lent
 withTable lent table = lentOf (lent .store) table (lent .normal) (lent .overlay)
 
--- with another normal row
+-- what is lent, with this normal row in place of its own
 abbrev pub withNormal : Lent → List ℕ → Lent
 withNormal lent normal = lentOf (lent .store) (lent .table) normal (lent .overlay)
 
--- with another overlay row
+-- what is lent, with this overlay row in place of its own
 abbrev pub withOverlay : Lent → List ℕ → Lent
 withOverlay lent overlay = lentOf (lent .store) (lent .table) (lent .normal) overlay
 
@@ -70,7 +70,7 @@ module _ (setup : Setup) (lent : Lent) where
   abbrev pub chosenHalf : List ℕ → ℕ → WindowEntry → ℕ
   chosenHalf row x entry = bits (pixelWord (setup .controls .depth) row x) (entry .low) (setup .controls .depth / 2)
 
-  -- the same of windows that each take half a pixel: the other half of every pixel may hold anything
+  -- another back buffer where each window takes half a pixel: the other half of every pixel may hold anything
   abbrev pub SameHalves : List ℕ → Type 0
   SameHalves row =
       EachPixel (λ x entry.
@@ -83,7 +83,7 @@ module _ (setup : Setup) (lent : Lent) where
       cursorHere colourCells screen entry x ≡ 0 → overlayHere colourCells screen entry x ≡ 0
       → pixelWord (setup .controls .depth) (lent .normal) x ≡ pixelWord (setup .controls .depth) row x)
 
-  -- both at once: where cursor and overlay are transparent, the chosen sample is the same
+  -- another back buffer and other covered samples at once: where cursor and overlay are transparent, the chosen sample is the same
   abbrev pub SameSeen : List ℕ → Type 0
   SameSeen row =
       EachPixel (λ x entry.
@@ -115,6 +115,6 @@ module _ (setup : Setup) (lent : Lent) where
   abbrev pub SameCounting : List ℕ → Type 0
   SameCounting store = (register : Register) → Counts (register .block) (register .word) → stored (lent .store) register ≡ stored store register
 
-  -- the same of the windows that a line meets before it is refused
+  -- of the window entries that a line meets before it is refused, the kept bits are the same
   abbrev pub SameMet : List ℕ → Type 0
   SameMet store = (id : ℕ) → Listed setup lent (windowEntry id) → stored (lent .store) (windowOf id) ≡ stored store (windowOf id)

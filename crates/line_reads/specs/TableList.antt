@@ -72,7 +72,7 @@ module _ (setup : Setup) (lent : Lent) where
   Searched toTheOneFound met start number = UpToLastEntry met start number
   Searched throughAll met start number = number < lineEntries (setup .lengths .table) start
 
-  -- their ends
+  -- ends of line entries, as far as they are searched
   pub record LineListed (lines : Search) (met byte : ℕ) : Type 0 where
     pub start : ℕ
     pub starts : StartsAt start
