@@ -109,7 +109,7 @@ module _ (held : Held) (roomy : Roomy held) where
 pub stays-roomy : (last : Bool) (held : Held) (bytes : List ℕ) → Roomy held → Roomy (stepped last held bytes .0 .0)
 stays-roomy last held bytes roomy = by (recordAt (contextOf held last) bytes) refl
   where
-    -- by what the step comes to
+    -- by what was found
     by : (answer : RecordAt) → recordAt (contextOf held last) bytes ≡ answer → Roomy (stepped last held bytes .0 .0)
     by (Is which count) e = rw (by-found last held bytes e) (record-roomy held roomy last bytes which e)
     by More e = rw (by-found last held bytes e) roomy

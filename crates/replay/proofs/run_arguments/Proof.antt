@@ -4,7 +4,7 @@ use native.Mathlib.Omega.{arith}
 use Rattle.replay.proofs.run_arguments.Statement.{statement}
 use Rattle.replay.proofs.run_arguments.Tie as tie
 
--- before each turn the next argument is one of them or past the last
+-- no turn needs to know of those before it
 abbrev Inv-loop : tie.InvT-loop
 Inv-loop count number₀ number = Unit {0}
 

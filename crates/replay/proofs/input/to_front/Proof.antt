@@ -6,7 +6,7 @@ use lib.ListN.{length}
 use Rattle.replay.proofs.input.to_front.Statement.{statement}
 use Rattle.replay.proofs.input.to_front.Tie as tie
 
--- before each turn both places are within the input
+-- before each turn the input has its length, and the place moved to is past neither the place read nor the end
 abbrev Inv-loop : tie.InvT-loop
 Inv-loop input₀ from to next₀ count₀ input next count = (length input ≡ length input₀) × (count ≤ next) × (count ≤ to)
 

@@ -16,7 +16,7 @@ use Rattle.replay.proofs.run.answered.Tie as tie
 same-end : (answer : StepAnswer) (place : ℕ) (course : Course) → movedBy answer place course .to ≡ course .to
 same-end answer place course = by (over answer)
   where
-    -- by what the answer adds to the listing
+    -- by whether the run is over
     by : (test : Bool) → cond test (ended (withFrom course place) Over) (withFrom course place) .to ≡ course .to
     by true = refl
     by false = refl

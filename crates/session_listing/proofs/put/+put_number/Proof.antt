@@ -24,7 +24,7 @@ abbrev put-number-at : ℕ → In 1 put-number-kinds.ps
 put-number-at t =
     and 1 put-number-kinds.ps (is 1 put-number-kinds.ps μ-put-number t) put-number.Pre
 
--- what a call with a smaller number may ask
+-- what a call with a smaller number asks
 abbrev put-number-below : ℕ → In 1 put-number-kinds.ps
 put-number-below t =
     and 1 put-number-kinds.ps (falls 1 put-number-kinds.ps _<_ μ-put-number t) put-number.Pre
@@ -49,7 +49,7 @@ put-number-slice-write-lent t c =
     let start = c .before .before .before in
     omega (arith, decimal-at-least-1 (start .args .number), start .pre .1)
 
--- the place after it is within the lent bytes
+-- the place after it is a number that there is
 put-number-add-result : (t : ℕ) → put-number-lts.Need-add-result (
   digit-reads.Asked,
   digit-reads.Learnt,
@@ -112,7 +112,7 @@ put-number-slice-write-lent-2 t c =
     let start = others .before .before .before .before in
     omega (arith, decimal-longer (start .args .number) (omega arith), start .pre .1)
 
--- the place after it is within the lent bytes
+-- the place after it is a number that there is
 put-number-add-result-2 : (t : ℕ) → put-number-lts.Need-add-result-2 (
   digit-reads.Asked,
   digit-reads.Learnt,
