@@ -60,7 +60,7 @@ module _ (request : Request) (lent : Lent) (output : List ℕ) where
   unfolding drawn
   answer-for e = refused-for given lent (said-refused (lineOf given lent) e)
 
-  -- and for each reason
+  -- whatever reason there is, the answer is the refusal that it names
   pub for-answer : {refusal : Numbered} → Reason given lent refusal → drawn request lent output .1 ≡ refused refusal
   unfolding drawn
   for-answer reason = ap withoutColours (for-refused given lent reason)

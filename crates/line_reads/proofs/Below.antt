@@ -40,7 +40,7 @@ module _ (setup : Setup) (lent : Lent) where
       let two = both (view lent) (entriesOf setup) (coloursOf setup) (past .next) in
       each-of-below (view lent) _ (2 ^ 24) (lit< tt) pixel-below (two .first) 0 (two .next)
 
--- every word of the active width that a drawn line leaves in the output
+-- every word of the active width that a drawn line leaves in the output is below 2^24
 pub output-below : (request : Request) (lent : Lent) (output : List ℕ) → drawn request lent output .1 ≡ ok tt
     → (i : ℕ) → i < controlsOf (request .state .control) .width → getD (drawn request lent output .0 .1) i 0 < 2 ^ 24
 unfolding setupOf

@@ -23,7 +23,7 @@ module _ (setup : Setup) (lent other : Lent) (agree : AgreeOnList setup lent oth
   pub line-rests-on-list : lineOf setup lent ≡ lineOf setup other
   line-rests-on-list = line-rests setup lent other on-reads
 
-  -- and what is listed of the one is listed of the other
+  -- what is listed for the first line is listed for the second
   pub same-list : (cell : Cell) → Listed setup lent cell → Listed setup other cell
   same-list cell listed =
       reads-listed setup other cell
@@ -34,7 +34,7 @@ pub line-rests-on-longer : (setup : Setup) (lent other : Lent) (Longer : Cell �
     → ((cell : Cell) → Longer cell → view lent cell ≡ view other cell) → lineOf setup lent ≡ lineOf setup other
 line-rests-on-longer setup lent other Longer holds agree = line-rests-on-list setup lent other (λ cell listed. agree cell (holds cell listed))
 
--- the same in the contract's own words: state, output and answer
+-- two calls that agree on the cells listed for the first leave and answer the same: state, output and answer
 pub drawn-rests-on-list : (request : Request) (lent other : Lent) → SameLengths lent other → (output : List ℕ)
     → AgreeOnList (setupOf request lent (length output)) lent other → drawn request lent output ≡ drawn request other output
 drawn-rests-on-list request lent other same output agree =

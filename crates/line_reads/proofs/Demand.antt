@@ -41,7 +41,7 @@ setup-inner request inner lent output words good = rw (good, words) refl
 
 -- the same is asked for; what both are lent is of the same lengths
 module _ (request : Request) (lent other : Lent) (same : SameLengths lent other) where
-  -- the outcome is the same
+  -- where they agree on the cells that the first line reads, both lines have one outcome
   pub outcome-rests : (output : ℕ) → AgreeOnReads (setupOf request lent output) lent other
       → lineOf (setupOf request lent output) lent ≡ lineOf (setupOf request other output) other
   outcome-rests output agree =
@@ -60,7 +60,7 @@ module _ (request : Request) (lent other : Lent) (same : SameLengths lent other)
   unfolding drawn
   drawn-same output e = rw (e, setup-rests request lent other (length output) same) refl
 
-  -- and so agreement on the cells that are read is
+  -- where they agree on the cells that the first line reads, both calls leave and answer the same
   pub drawn-rests : (output : List ℕ) → AgreeOnReads (setupOf request lent (length output)) lent other
       → drawn request lent output ≡ drawn request other output
   drawn-rests output agree = drawn-same output (line-rests (setupOf request lent (length output)) lent other agree)

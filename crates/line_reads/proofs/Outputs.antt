@@ -97,7 +97,7 @@ module _ (request : Request) (lent : Lent) (output : List ℕ) where
       by (ok tt) fine = fitted given fine .output-right
       by (refused refusal) early = impossible (cc (refused-unread given lent early))
 
-  -- and it is as long after any line as before
+  -- the output is as long after any line as before
   pub output-length : length (drawn request lent output .0 .1) ≡ length output
   unfolding drawn
   output-length = by (lineOf given lent) refl

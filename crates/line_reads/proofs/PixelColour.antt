@@ -67,7 +67,7 @@ module _ (setup : Setup) (lent : Lent) where
       ∙ ap (λ (entry : WindowEntry). value (λ cell. view lent (ofColour cell)) (colourOfPixel (screenIn setup) entry x)) same
       ∙ sym (second .is)
 
--- the same of the whole call: where it answers that the line is drawn, each word of the active width is the colour of its pixel
+-- where a call answers that the line is drawn, each word of the active width is the colour of its pixel
 pub drawn-colour : (request : Request) (lent : Lent) (output : List ℕ) → drawn request lent output .1 ≡ ok tt
     → (x : ℕ) → x < controlsOf (request .state .control) .width → HasColour (setupOf request lent (length output)) lent x (getD (drawn request lent output .0 .1) x 0)
 unfolding setupOf
