@@ -15,12 +15,18 @@ use lib.Dec.{lit<}
 use lib.Pow.{pow-add, pow-pos, shr-lt, shl-exact, shr-shr, high}
 use lib.Arith.{digits-lt, digits-mod}
 use Rattle.rules.proofs.Cases.{le-or-lt}
-use Rattle.line_formats.specs.Channel.{repeated, widened, fromTop}
+use Rattle.line_formats.specs.Channel.{repeated, widened}
 
+-- bit i from the top of a number of `width` bits, the top one being bit 0
+abbrev pub fromTop : ℕ → ℕ → ℕ → ℕ
+fromTop value width i = value / 2 ^ (width - 1 - i) % 2
+
+-- so many copies of `width` bits have no more bits than their widths together
 repeated-lt : (value width count : ℕ) → value < 2 ^ width → repeated value width count < 2 ^ (count * width)
 repeated-lt value width zero h = rw zero-mul (lit< tt)
 repeated-lt value width (suc count) h = rw (suc-mul, pow-add) (digits-lt (repeated-lt value width count h) h)
 
+-- copies in two parts: the first part stands above the second
 repeated-add : (value width m n : ℕ) → repeated value width (m + n) ≡ repeated value width m * 2 ^ (n * width) + repeated value width n
 repeated-add value width m zero = simp (zero-mul, mul-one, add-zero)
 repeated-add value width m (suc n) =

@@ -1,5 +1,5 @@
 -- A channel of a few bits, widened to 8 by repeating its bits from the top.
-use Prim.Native.Nat.{ℕ, zero, suc, _+_, _-_, _*_, _/_, _%_, _^_}
+use Prim.Native.Nat.{ℕ, zero, suc, _+_, _-_, _*_, _/_, _^_}
 use Rattle.words.specs.Field.{bits}
 use Rattle.words.specs.declared.Rgb.{Rgb}
 
@@ -11,10 +11,6 @@ repeated value width (suc count) = repeated value width count * 2 ^ width + valu
 -- the first 8 of the repeated bits
 unfoldable pub widened : ℕ → ℕ → ℕ
 widened value width = repeated value width 8 / 2 ^ (8 * width - 8)
-
--- bit i from the top of a number of `width` bits, the top one being bit 0
-abbrev pub fromTop : ℕ → ℕ → ℕ → ℕ
-fromTop value width i = value / 2 ^ (width - 1 - i) % 2
 
 -- the channel of a sample that has `width` bits, from bit `low` up
 abbrev pub channel : ℕ → ℕ → ℕ → ℕ

@@ -65,7 +65,7 @@ impl Screen {
         }
         let mut i = 0;
         while i < count {
-            out[i] = self.colour_of(entry, store, normal, overlay, x + i);
+            out[i] = self.colour_of_pixel(entry, store, normal, overlay, x + i);
             i += 1;
         }
     }

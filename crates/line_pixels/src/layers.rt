@@ -148,7 +148,7 @@ impl Screen {
     }
 
     // The colour of a pixel.
-    pub(crate) fn colour_of(
+    pub(crate) fn colour_of_pixel(
         self,
         entry: WindowEntry,
         store: &[u32],

@@ -38,11 +38,11 @@ returns c =
 loop-holds : tie.Need-loop-holds Inv-loop μ-loop
 loop-holds c = fill-start (c .before .before .before .before .before .before .pre .2)
 
-add-colour-of : tie.Need-add-colour-of Inv-loop μ-loop
-add-colour-of c = omega arith
+add-colour-of-pixel : tie.Need-add-colour-of-pixel Inv-loop μ-loop
+add-colour-of-pixel c = omega arith
 
-colour-of-requires : tie.Need-colour-of-requires Inv-loop μ-loop
-colour-of-requires c κs =
+colour-of-pixel-requires : tie.Need-colour-of-pixel-requires Inv-loop μ-loop
+colour-of-pixel-requires c κs =
     let start = c .before .before .before .before .before .before .before .before in
     let before : start .args .x + c .before .loop .i + 1 ≤ start .args .x + start .args .count = omega (arith, c .loop-test .taken) in
     pixels-before (start .pre .0) before
@@ -60,7 +60,7 @@ loop-less : tie.Need-loop-less Inv-loop μ-loop
 loop-less c = omega arith
 
 loop-again : tie.Need-loop-again Inv-loop μ-loop
-loop-again c = fill-next (c .before .before .loop .inv) (c .before .loop-test .taken) (c .colour-of .ensures)
+loop-again c = fill-next (c .before .before .loop .inv) (c .before .loop-test .taken) (c .colour-of-pixel .ensures)
 
 same-length-2 : tie.Need-same-length-2 Inv-loop μ-loop
 same-length-2 c = c .before .loop .inv .long
@@ -79,8 +79,8 @@ fill-spec =
     same-length
     returns
     loop-holds
-    add-colour-of
-    colour-of-requires
+    add-colour-of-pixel
+    colour-of-pixel-requires
     mul-out
     slice-write-out
     add-i

@@ -1,9 +1,9 @@
--- `line_pixels::Screen::colour_of` meets its contract: the cursor, or what is under it. Assumes nothing.
+-- `line_pixels::Screen::colour_of_pixel` meets its contract: the cursor, or what is under it. Assumes nothing.
 use borrow.Author.Needs.{needs}
 use Rattle.line_pixels.specs.Cells.{pixelView}
 use Rattle.line_pixels.proofs.LayersCases.{colour-under, colour-of-cursor}
-use Rattle.line_pixels.proofs.Screen.colour_of.Statement.{statement}
-use Rattle.line_pixels.proofs.Screen.colour_of.Tie as tie
+use Rattle.line_pixels.proofs.Screen.colour_of_pixel.Statement.{statement}
+use Rattle.line_pixels.proofs.Screen.colour_of_pixel.Tie as tie
 
 cursor-at-requires : tie.Need-cursor-at-requires
 cursor-at-requires c κs = search needs
@@ -41,8 +41,8 @@ returns-2 c =
     (c .before .before .stored .ensures)
     (rw (c .before .cursor-skips-gamma .ensures) at (c .through-gamma .ensures (a .normal .now) (a .overlay .now)))
 
-pub colour-of-spec : {M : Type 1} → statement M
-colour-of-spec =
+pub colour-of-pixel-spec : {M : Type 1} → statement M
+colour-of-pixel-spec =
     tie.close
     (tie.spec
     cursor-at-requires
