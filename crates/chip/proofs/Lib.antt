@@ -1,4 +1,4 @@
-pub mod Blocks
+pub mod Places
 pub mod Words
 pub mod Good
 pub mod CallCheck

@@ -17,7 +17,7 @@ use Rattle.chip.specs.State.{goodState}
 use Rattle.chip.specs.Call.{Chip}
 use Rattle.chip.specs.Read.{controlShowsBy, registerShows, readBack}
 use Rattle.chip.specs.declared.state.State.{State}
-use Rattle.chip.proofs.Blocks.{stored-shown}
+use Rattle.chip.proofs.Places.{stored-shown}
 use Rattle.chip.proofs.Good.{good-says}
 use Rattle.chip.proofs.CallCheck.{says-allowed}
 use Rattle.chip.proofs.Readings.{read-shown}
@@ -44,7 +44,7 @@ module _ (chip : Chip) (good : goodState (chip .0) ≡ true) (size : length (chi
   -- a read of any block in the store shows the stored word's kept bits, whatever waits
   pub read-stored : (address : ℕ) (register : Register) → named address ≡ Is register → inStore (register .block) ≡ true
       → readBack chip address .1 ≡ ok (stored (chip .1) register)
-  read-stored address register names here = read-named address register names ∙ ap ok (stored-shown chip register (register .block) here)
+  read-stored address register names here = read-named address register names ∙ ap ok (stored-shown chip register here)
 
 -- so it does not rest on the state: whatever its control words, its position and its queue
 pub read-not-waiting : (state state′ : State) (store : List ℕ) → goodState state ≡ true → goodState state′ ≡ true → length store ≡ storeLength

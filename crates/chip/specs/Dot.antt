@@ -27,7 +27,7 @@ drains state = signalsOf state .blank && ltb 0 (state .queue .waiting)
 abbrev pub oldestApplied : Chip → Chip
 oldestApplied chip =
     let write = oldest (chip .0 .queue) in
-    (withQueue (chip .0) (popped (chip .0 .queue)), set (chip .1) (target write) (write .colour))
+    (withQueue (chip .0) (popped (chip .0 .queue)), set (chip .1) (target write) (write .value))
 
 -- so at a dot that is blanked where something waits
 abbrev pub drained : Chip → Chip

@@ -10,10 +10,11 @@ use Rattle.refusals.specs.Refusal.{numbered, fault}
 use Rattle.refusals.specs.declared.Refusal.the-variants.{NoRegister}
 use Rattle.chip_timing.specs.declared.Position.{Position}
 use Rattle.chip_registers.specs.Named.{addressPlace, named}
-use Rattle.chip_registers.specs.Store.{stored}
-use Rattle.chip_registers.specs.declared.Block.{Block}
-use Rattle.chip_registers.specs.declared.Block.the-variants.{Control, WindowEntries, ColourMap, GammaMap, CursorGlyph, CursorColours}
+use Rattle.chip_registers.specs.Kept.{keptOf}
+use Rattle.chip_registers.specs.Store.{storePlace}
 use Rattle.chip_registers.specs.declared.Register.{Register}
+use Rattle.chip_registers.specs.declared.StorePlace.{StorePlace}
+use Rattle.chip_registers.specs.declared.StorePlace.the-variants.{At, Nowhere}
 use Rattle.chip_registers.specs.declared.Named.{Named}
 use Rattle.chip_registers.specs.declared.Named.the-variants.{Is, Nothing}
 use Rattle.chip_queue.specs.Queue.{room}
@@ -35,18 +36,14 @@ controlShowsBy control room at word = cond (eqb word 9) room (cond (eqb word 10)
 abbrev pub controlShows : State → ℕ → ℕ
 controlShows state word = controlShowsBy (state .control) (room (state .queue)) (state .at) word
 
--- a control word is the state's, every other word is the stored one, not a waiting one
-abbrev pub blockShows : Chip → Block → Register → ℕ
-blockShows chip Control register = controlShows (chip .0) (register .word)
-blockShows chip WindowEntries register = stored (chip .1) register
-blockShows chip ColourMap register = stored (chip .1) register
-blockShows chip GammaMap register = stored (chip .1) register
-blockShows chip CursorGlyph register = stored (chip .1) register
-blockShows chip CursorColours register = stored (chip .1) register
+-- what a register shows at its place: in the store the stored word, not a waiting one; else it is a control word
+abbrev pub showsAt : Chip → Register → StorePlace → ℕ
+showsAt chip register (At index) = keptOf register (getD (chip .1) index 0)
+showsAt chip register Nowhere = controlShows (chip .0) (register .word)
 
--- so of a register
+-- what a register shows
 abbrev pub registerShows : Chip → Register → ℕ
-registerShows chip register = blockShows chip (register .block) register
+registerShows chip register = showsAt chip register (storePlace register)
 
 -- an address that names nothing is refused before anything is shown
 abbrev pub addressShows : Chip → Named → ℕ

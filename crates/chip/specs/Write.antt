@@ -1,6 +1,6 @@
 -- A register write.
 use Prim.Native.Nat.{ℕ}
-use mathlib.Core.Bool.{Bool, true, not, _&&_}
+use mathlib.Core.Bool.{Bool, true, not, cond, _&&_}
 use mathlib.Core.List.{List, [], _∷_, _++_}
 use lib.ListN.{length, set}
 use Rattle.rules.specs.Rule.{Outcome, ok, refused}
@@ -9,11 +9,11 @@ use Rattle.refusals.specs.Refusal.{numbered, fault}
 use Rattle.refusals.specs.declared.Refusal.the-variants.{NoRegister, ReadOnly, StrayBits, QueueFull}
 use Rattle.chip_registers.specs.Named.{addressPlace, named}
 use Rattle.chip_registers.specs.Kept.{fits}
-use Rattle.chip_registers.specs.Store.{storeIndex}
+use Rattle.chip_registers.specs.Store.{storePlace}
 use Rattle.chip_registers.specs.Access.{readOnly, waits}
-use Rattle.chip_registers.specs.declared.Block.{Block}
-use Rattle.chip_registers.specs.declared.Block.the-variants.{Control, WindowEntries, ColourMap, GammaMap, CursorGlyph, CursorColours}
 use Rattle.chip_registers.specs.declared.Register.{Register}
+use Rattle.chip_registers.specs.declared.StorePlace.{StorePlace}
+use Rattle.chip_registers.specs.declared.StorePlace.the-variants.{At, Nowhere}
 use Rattle.chip_registers.specs.declared.Named.{Named}
 use Rattle.chip_registers.specs.declared.Named.the-variants.{Is, Nothing}
 use Rattle.chip_queue.specs.Queue.{full, pushed}
@@ -38,18 +38,16 @@ addressFaults full address value = registerFaults full (named address) (addressP
 abbrev pub writeFaults : Chip → ℕ → ℕ → List Fault
 writeFaults chip address value = callFaults (chip .0) (length (chip .1)) ++ addressFaults (full (chip .0 .queue)) address value
 
--- a control word is the state's, a colour write joins the queue, every other word is the store's
-abbrev pub putIn : Chip → Block → Register → ℕ → Chip
-putIn chip Control register value = (withWord (chip .0) (register .word) value, chip .1)
-putIn chip WindowEntries register value = (chip .0, set (chip .1) (storeIndex register) value)
-putIn chip ColourMap register value = (withQueue (chip .0) (pushed (chip .0 .queue) (writeTo register value)), chip .1)
-putIn chip GammaMap register value = (chip .0, set (chip .1) (storeIndex register) value)
-putIn chip CursorGlyph register value = (chip .0, set (chip .1) (storeIndex register) value)
-putIn chip CursorColours register value = (chip .0, set (chip .1) (storeIndex register) value)
+-- a value at its register's place: a word of the store, or a control word, which is the state's
+abbrev pub putAt : Chip → Register → ℕ → StorePlace → Chip
+putAt chip register value (At index) = (chip .0, set (chip .1) index value)
+putAt chip register value Nowhere = (withWord (chip .0) (register .word) value, chip .1)
 
--- a value goes where its register's block says
+-- a write joins the queue where it waits, else its value goes to its place
 abbrev pub put : Chip → Register → ℕ → Chip
-put chip register value = putIn chip (register .block) register value
+put chip register value =
+    cond (waits register) (withQueue (chip .0) (pushed (chip .0 .queue) (writeTo register value)), chip .1)
+    (putAt chip register value (storePlace register))
 
 -- where an address names nothing, nowhere
 abbrev pub putNamed : Chip → Named → ℕ → Chip

@@ -48,7 +48,7 @@ impl State {
         let queue = self.queue;
         let oldest = queue.oldest();
         let index = oldest.target();
-        store[index] = oldest.colour;
+        store[index] = oldest.value;
         self.queue = queue.popped();
         self
     }

@@ -8,9 +8,9 @@ ghost use Rattle.chip_registers.specs.Store.{storeLength};
 ghost use Rattle.chip.specs.State.{goodState};
 ghost use Rattle.chip.specs.Read.{controlShowsBy, controlShows, registerShows, readOutcome, readBack};
 use crate::state::State;
-use chip_registers::Block;
 use chip_registers::Named;
 use chip_registers::Register;
+use chip_registers::StorePlace;
 use chip_timing::Position;
 use refusals::Answer;
 use refusals::Refusal;
@@ -58,13 +58,10 @@ impl State {
         requires { ⌜ (goodState self ≡ true) × (register .word < count (register .block)) × (length (now store) ≡ storeLength) ⌝ }
         ensures { λ r. ⌜ r ≡ registerShows (self, now (store .entry)) register ⌝ }
     {
-        let block = register.block;
-        match block {
-            Block::Control => self.shown_of_control(register.word),
-            _ => {
-                let index = register.store_index();
-                register.kept(store[index])
-            }
+        let place = register.store_place();
+        match place {
+            StorePlace::At(index) => register.kept(store[index]),
+            StorePlace::Nowhere => self.shown_of_control(register.word),
         }
     }
 

@@ -14,9 +14,9 @@ ghost use Rattle.chip.specs.Write.{put, written};
 ghost use Rattle.chip.specs.Inner.{writeTest, Judged};
 use crate::state::State;
 use chip_queue::Waiting;
-use chip_registers::Block;
 use chip_registers::Named;
 use chip_registers::Register;
+use chip_registers::StorePlace;
 use refusals::Answer;
 use refusals::Refusal;
 
@@ -70,7 +70,7 @@ impl State {
         self
     }
 
-    // A colour write joins the queue.
+    // A write joins the queue.
     fn with_waiting(mut self, write: Waiting) -> Self
         ensures { λ r. ⌜ r ≡ withQueue self (pushed (self .queue) write) ⌝ }
     {
@@ -79,23 +79,22 @@ impl State {
         self
     }
 
-    // A value goes into a register, or into the queue for it.
+    // A write joins the queue where it waits; else its value goes into the store or into a control word.
     fn put(self, store: &mut [u32], register: Register, value: u32) -> Self
         requires { ⌜ (readOnly register ≡ false) × (register .word < count (register .block)) × (length (now store) ≡ storeLength) ⌝ }
         ensures { λ r. ⌜ (r, now (store .exit)) ≡ put (self, now (store .entry)) register value ⌝ }
     {
-        let block = register.block;
-        match block {
-            Block::Control => self.with_word(register.word as usize, value),
-            Block::ColourMap => self.with_waiting(Waiting {
-                entry: register.word,
-                colour: value,
-            }),
-            _ => {
-                let index = register.store_index();
+        let word = register.word;
+        if register.waits() {
+            return self.with_waiting(Waiting { word, value });
+        }
+        let place = register.store_place();
+        match place {
+            StorePlace::At(index) => {
                 store[index] = value;
                 self
             }
+            StorePlace::Nowhere => self.with_word(word as usize, value),
         }
     }
 

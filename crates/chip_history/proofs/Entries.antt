@@ -20,7 +20,7 @@ use Rattle.chip_queue.specs.Waiting.{target}
 use Rattle.chip_queue.specs.declared.Waiting.{Waiting}
 use Rattle.chip.specs.State.{fresh, HasArrays}
 use Rattle.chip.specs.Call.{Chip}
-use Rattle.chip.specs.Write.{putIn}
+use Rattle.chip.specs.Write.{put}
 use Rattle.chip.specs.Dot.{signalsOf, drains, oldestApplied, afterDot}
 use Rattle.chip.proofs.Good.{fresh-whole}
 use Rattle.chip.proofs.CallCheck.{allowed-says}
@@ -37,13 +37,13 @@ module _ (entry : ℕ) where
   -- some writes and then others
   latest-then : (writes others : List Waiting) (held : ℕ) → latest entry (writes ++ others) held ≡ latest entry others (latest entry writes held)
   latest-then [] others held = refl
-  latest-then (next ∷ writes) others held = latest-then writes others (cond (eqb (next .entry) entry) (next .colour) held)
+  latest-then (next ∷ writes) others held = latest-then writes others (cond (eqb (next .word) entry) (next .value) held)
 
   -- where the last of some lists is one write to the entry, its colour is what the entry holds after all of them
-  pub latest-last : (dark : List (List Waiting)) (k : ℕ) (last : Waiting) (held : ℕ) → length dark ≡ suc k → getD dark k [] ≡ last ∷ [] → last .entry ≡ entry
-      → latest entry (joined dark) held ≡ last .colour
+  pub latest-last : (dark : List (List Waiting)) (k : ℕ) (last : Waiting) (held : ℕ) → length dark ≡ suc k → getD dark k [] ≡ last ∷ [] → last .word ≡ entry
+      → latest entry (joined dark) held ≡ last .value
   latest-last [] k last held size is same = absurd (omega arith)
-  latest-last (some ∷ []) zero last held size is same = rw (is, eq-eqb (last .entry) entry same) refl
+  latest-last (some ∷ []) zero last held size is same = rw (is, eq-eqb (last .word) entry same) refl
   latest-last (some ∷ []) (suc k) last held size is same = absurd (omega arith)
   latest-last (some ∷ next ∷ dark) zero last held size is same = absurd (omega arith)
   latest-last (some ∷ next ∷ dark) (suc k) last held size is same =
@@ -63,7 +63,7 @@ module _ (entry : ℕ) where
 
     -- no write acts on the entry at once
     put-holds : (chip : Chip) (block : Block) (word value : ℕ) → word < count block
-        → held-in (putIn chip block (record { block = block; word = word }) value .1) ≡ held-in (chip .1)
+        → held-in (put chip (record { block = block; word = word }) value .1) ≡ held-in (chip .1)
     put-holds chip Control word value below = refl
     put-holds chip WindowEntries word value below = other-block WindowEntries word value (chip .1) refl (λ e. impossible (cc)) below
     put-holds chip ColourMap word value below = refl
@@ -73,13 +73,13 @@ module _ (entry : ℕ) where
 
     -- a write that is applied acts on its own entry alone
     write-holds : (store : List ℕ) (write : Waiting) → length store ≡ storeLength
-        → held-in (set store (target write) (write .colour)) ≡ cond (eqb (write .entry) entry) (write .colour) (held-in store)
-    write-holds store write size = by (eqb (write .entry) entry) refl
+        → held-in (set store (target write) (write .value)) ≡ cond (eqb (write .word) entry) (write .value) (held-in store)
+    write-holds store write size = by (eqb (write .word) entry) refl
       where
-        by : (same : Bool) → eqb (write .entry) entry ≡ same → held-in (set store (target write) (write .colour)) ≡ cond same (write .colour) (held-in store)
-        by true e = rw (eqb-true (write .entry) entry e) (getD-set-same store (storeStart ColourMap + entry) (write .colour) 0 (omega arith))
+        by : (same : Bool) → eqb (write .word) entry ≡ same → held-in (set store (target write) (write .value)) ≡ cond same (write .value) (held-in store)
+        by true e = rw (eqb-true (write .word) entry e) (getD-set-same store (storeStart ColourMap + entry) (write .value) 0 (omega arith))
         by false e =
-            getD-set-other store (target write) (storeStart ColourMap + entry) (write .colour) 0 (λ same. eqb-false (write .entry) entry e (omega arith))
+            getD-set-other store (target write) (storeStart ColourMap + entry) (write .value) 0 (λ same. eqb-false (write .word) entry e (omega arith))
 
     -- a blanked dot applies the oldest write, if something waits
     step-holds : (chip : Chip) (blank : Bool) → length (chip .1) ≡ storeLength

@@ -45,12 +45,12 @@ module _ (chip : Chip) (calls : List Call) (whole : HasArrays (chip .0)) (good :
 
   -- right after its own dot, its entry of the map holds its colour
   pub lands : length (blanked chip calls) ≡ suc k
-      → getD (end chip calls .1) (target (getD (waitingIn (chip .0 .queue)) k zeroSlot)) 0 ≡ getD (waitingIn (chip .0 .queue)) k zeroSlot .colour
+      → getD (end chip calls .1) (target (getD (waitingIn (chip .0 .queue)) k zeroSlot)) 0 ≡ getD (waitingIn (chip .0 .queue)) k zeroSlot .value
   lands last =
       let own = getD (waitingIn (chip .0 .queue)) k zeroSlot in
       let fine = good-each (waitingIn (chip .0 .queue)) k (rule.good-says (chip .0 .queue) (good-says (chip .0) good .3) .1) stands in
-      map-entry (own .entry) (write-says own fine .0) chip calls whole
-      ∙ latest-last (own .entry) (blanked chip calls) k own (getD (chip .1) (target own) 0) last (exact-dot .1 (omega arith)) refl
+      map-entry (own .word) (write-says own fine .0) chip calls whole
+      ∙ latest-last (own .word) (blanked chip calls) k own (getD (chip .1) (target own) 0) last (exact-dot .1 (omega arith)) refl
 
 -- from a fresh state: whatever was called, what then waits is applied within the next 64 blanked dots
 pub fresh-within-64 : (store : List ℕ) (before calls : List Call) (k : ℕ) → let chip : Chip = end (fresh, store) before in

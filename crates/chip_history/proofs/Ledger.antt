@@ -20,7 +20,7 @@ use Rattle.chip_queue.proofs.Order.{waiting-pushed, waiting-popped, waiting-fro
 use Rattle.chip_queue.proofs.Rule as rule
 use Rattle.chip.specs.State.{fresh, goodState, HasArrays}
 use Rattle.chip.specs.Call.{Chip}
-use Rattle.chip.specs.Write.{putIn}
+use Rattle.chip.specs.Write.{put}
 use Rattle.chip.specs.Dot.{signalsOf, drains, oldestApplied, afterDot}
 use Rattle.chip.specs.declared.report.Report.the-variants.{Last}
 use Rattle.chip.proofs.Good.{good-says, not-full, fresh-whole, fresh-good}
@@ -36,11 +36,11 @@ use Rattle.chip_history.proofs.Acts.{Acts, still, joins, leaves, finds-
 -- a colour write joins the queue, and any other leaves it
 put-acts : (chip : Chip) (block : Block) (word value : ℕ) → HasSlots (chip .0 .queue) → (waitsIn block && full (chip .0 .queue)) ≡ false
     → Acts (waitingIn (chip .0 .queue)) [] (colourWrite (Is (record { block = block; word = word })) value)
-    (waitingIn (putIn chip block (record { block = block; word = word }) value .0 .queue))
+    (waitingIn (put chip (record { block = block; word = word }) value .0 .queue))
 put-acts chip Control word value sized free = still
 put-acts chip WindowEntries word value sized free = still
 put-acts chip ColourMap word value sized free =
-    let write : Waiting = record { entry = word; colour = value } in
+    let write : Waiting = record { word = word; value = value } in
     rw (waiting-pushed (chip .0 .queue) write (not-full (chip .0 .queue) free) sized) (joins write still)
 put-acts chip GammaMap word value sized free = still
 put-acts chip CursorGlyph word value sized free = still

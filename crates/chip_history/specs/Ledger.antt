@@ -91,4 +91,4 @@ met ((some ∷ more) ∷ others) = met others + 1
 -- the colour of the last of some writes to an entry, or what it held before
 abbrev pub latest : ℕ → List Waiting → ℕ → ℕ
 latest entry [] held = held
-latest entry (next ∷ later) held = latest entry later (cond (eqb (next .entry) entry) (next .colour) held)
+latest entry (next ∷ later) held = latest entry later (cond (eqb (next .word) entry) (next .value) held)

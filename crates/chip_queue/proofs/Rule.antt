@@ -10,8 +10,10 @@ use lib.ListN.{length, getD, take, drop, length-take, drop-of-length-le}
 use lib.Seq.{drop-cons, getD-take}
 use Rattle.chip_registers.specs.Blocks.{count}
 use Rattle.chip_registers.specs.Kept.{fits}
+use Rattle.chip_registers.specs.Store.{storePlace}
 use Rattle.chip_registers.specs.declared.Block.the-variants.{ColourMap}
-use Rattle.chip_queue.specs.Waiting.{registerOf, goodWrite}
+use Rattle.chip_registers.specs.declared.StorePlace.the-variants.{At}
+use Rattle.chip_queue.specs.Waiting.{registerOf, goodWrite, target}
 use Rattle.chip_queue.specs.Queue.{zeroSlot, waitingIn, oldest, pushed, popped, HasSlots}
 use Rattle.chip_queue.specs.Good.{allGood, goodQueue}
 use Rattle.chip_queue.specs.declared.Waiting.{Waiting}
@@ -59,14 +61,18 @@ says-good queue few good = rw (le-leb _ _ few) good
 pub none-good : (queue : Queue) → queue .waiting ≡ 0 → goodQueue queue ≡ true
 none-good queue none = says-good queue (omega arith) (ap (λ (count : ℕ). allGood (take count (queue .slots))) none)
 
+-- a write goes to the place of its register in the store
+pub target-place : (write : Waiting) → storePlace (registerOf write) ≡ At (target write)
+target-place write = refl
+
 -- a good write goes to a colour entry, with no bits but those that it keeps
 pub write-says : (write : Waiting) → goodWrite write ≡ true
-    → (write .entry < count ColourMap) × (fits (registerOf write) (write .colour) ≡ true)
+    → (write .word < count ColourMap) × (fits (registerOf write) (write .value) ≡ true)
 unfolding goodWrite
 write-says write good = let e = both _ _ good in (ltb-true _ _ (e .0), e .1)
 
 -- and that is all that it asks
-pub says-write : (write : Waiting) → write .entry < count ColourMap → fits (registerOf write) (write .colour) ≡ true → goodWrite write ≡ true
+pub says-write : (write : Waiting) → write .word < count ColourMap → fits (registerOf write) (write .value) ≡ true → goodWrite write ≡ true
 unfolding goodWrite
 says-write write here fine = rw (lt-ltb _ _ here) fine
 

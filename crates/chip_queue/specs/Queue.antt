@@ -14,7 +14,7 @@ mostWaiting = 64
 
 -- what a slot holds that never held a write
 abbrev pub zeroSlot : Waiting
-zeroSlot = record { entry = 0; colour = 0 }
+zeroSlot = record { word = 0; value = 0 }
 
 -- there are 64 slots: the array of the code has them, where a definition sees a list
 abbrev pub HasSlots : Queue → Type 0

@@ -1,26 +1,26 @@
 -- A colour write that waits: when it may, and where it goes.
-use Prim.Native.Nat.{ℕ}
+use Prim.Native.Nat.{ℕ, _+_}
 use mathlib.Core.Bool.{Bool, _&&_}
 use lib.Dec.{ltb}
 use Rattle.chip_registers.specs.Blocks.{count}
 use Rattle.chip_registers.specs.Kept.{fits}
-use Rattle.chip_registers.specs.Store.{storeIndex}
+use Rattle.chip_registers.specs.Store.{storeStart}
 use Rattle.chip_registers.specs.declared.Block.the-variants.{ColourMap}
 use Rattle.chip_registers.specs.declared.Register.{Register}
 use Rattle.chip_queue.specs.declared.Waiting.{Waiting}
 
 -- the register that it is for: a colour entry
 abbrev pub registerOf : Waiting → Register
-registerOf write = record { block = ColourMap; word = write .entry }
+registerOf write = record { block = ColourMap; word = write .word }
 
 -- the write of a value that waits for a register
 abbrev pub writeTo : Register → ℕ → Waiting
-writeTo register value = record { entry = register .word; colour = value }
+writeTo register value = record { word = register .word; value = value }
 
--- there is such an entry, and the write has no bits but those that the entry keeps
+-- there is such a register, and the write has no bits but those that it keeps
 unfoldable pub goodWrite : Waiting → Bool
-goodWrite write = ltb (write .entry) (count ColourMap) && fits (registerOf write) (write .colour)
+goodWrite write = ltb (write .word) (count (registerOf write .block)) && fits (registerOf write) (write .value)
 
 -- where it goes in the store
 abbrev pub target : Waiting → ℕ
-target write = storeIndex (registerOf write)
+target write = storeStart (registerOf write .block) + registerOf write .word

@@ -4,21 +4,38 @@ ghost use mathlib.Core.Path.{_≡_};
 ghost use Rattle.chip_queue.specs.Waiting.{goodWrite, target};
 ghost use Rattle.chip_queue.specs.Queue.{emptyQueue, room, full, oldest, pushed, popped};
 ghost use Rattle.chip_queue.specs.Good.{goodQueue};
-use chip_registers::Block;
-use chip_registers::Register;
+use chip_registers::COLOUR_BITS;
+use chip_registers::COLOUR_MAP_START;
+use chip_registers::COLOUR_MAP_WORDS;
+
+// How many writes can wait.
+pub const MOST_WAITING: u32 = 64;
+
+// How many slots the queue has.
+pub const SLOTS: usize = MOST_WAITING as usize;
+
+// The last slot.
+const LAST_SLOT: usize = SLOTS - 1;
+
+// How many values a colour can have.
+const COLOURS: u32 = 1 << COLOUR_BITS;
 
 // A colour write that waits.
 #[repr(C)]
 pub struct Waiting {
-    pub entry: u32,
-    pub colour: u32,
+    // the word of the colour map that it is for
+    pub word: u32,
+    // what it writes there
+    pub value: u32,
 }
 
 // The writes that wait stand in the first `waiting` slots, the oldest in slot 0.
 #[repr(C)]
 pub struct Queue {
+    // how many writes wait
     pub waiting: u32,
-    pub slots: [Waiting; 64],
+    // the writes that wait, and behind them slots that do not count
+    pub slots: [Waiting; SLOTS],
 }
 
 // One less, and 0 of 0.
@@ -29,12 +46,12 @@ fn one_less(count: u32) -> u32
 }
 
 impl Waiting {
-    // Whether it is a write to a colour entry, of at most 24 bits.
+    // Whether there is such a word, and the write has no bits but those that it keeps.
     pub fn good(self) -> bool
         ensures { λ r. ⌜ r ≡ goodWrite self ⌝ }
     {
-        if self.entry < 4608 {
-            self.colour < 0x1000000
+        if self.word < COLOUR_MAP_WORDS {
+            self.value < COLOURS
         } else {
             false
         }
@@ -44,11 +61,7 @@ impl Waiting {
     pub fn target(self) -> usize
         ensures { λ r. ⌜ r ≡ target self ⌝ }
     {
-        let register = Register {
-            block: Block::ColourMap,
-            word: self.entry,
-        };
-        register.store_index()
+        COLOUR_MAP_START + (self.word as usize)
     }
 }
 
@@ -59,10 +72,7 @@ impl Queue {
     {
         Self {
             waiting: 0,
-            slots: [Waiting {
-                entry: 0,
-                colour: 0,
-            }; 64],
+            slots: [Waiting { word: 0, value: 0 }; SLOTS],
         }
     }
 
@@ -70,8 +80,8 @@ impl Queue {
     pub fn room(self) -> u32
         ensures { λ r. ⌜ r ≡ room self ⌝ }
     {
-        if self.waiting < 64 {
-            64 - self.waiting
+        if self.waiting < MOST_WAITING {
+            MOST_WAITING - self.waiting
         } else {
             0
         }
@@ -81,7 +91,7 @@ impl Queue {
     pub fn full(self) -> bool
         ensures { λ r. ⌜ r ≡ full self ⌝ }
     {
-        64 <= self.waiting
+        MOST_WAITING <= self.waiting
     }
 
     // The oldest write.
@@ -108,15 +118,12 @@ impl Queue {
         ensures { λ r. ⌜ r ≡ popped self ⌝ }
     {
         let mut i: usize = 0;
-        while i < 63 {
+        while i < LAST_SLOT {
             let next = self.slots[i + 1];
             self.slots[i] = next;
             i += 1;
         }
-        self.slots[63] = Waiting {
-            entry: 0,
-            colour: 0,
-        };
+        self.slots[LAST_SLOT] = Waiting { word: 0, value: 0 };
         self.waiting = one_less(self.waiting);
         self
     }
@@ -125,7 +132,7 @@ impl Queue {
     pub fn good(self) -> bool
         ensures { λ r. ⌜ r ≡ goodQueue self ⌝ }
     {
-        if 64 < self.waiting {
+        if MOST_WAITING < self.waiting {
             return false;
         }
         let waiting = self.waiting as usize;

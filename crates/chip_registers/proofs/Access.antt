@@ -6,7 +6,7 @@ use mathlib.Core.List.{List, [], _∷_}
 use types.Run.{OneOf, miss}
 use denote.Enum.Declared.{tagOf}
 use Rattle.chip_registers.specs.Store.{inStore}
-use Rattle.chip_registers.specs.Access.{readOnlyIn, waitsIn}
+use Rattle.chip_registers.specs.Access.{readOnlyIn}
 use Rattle.chip_registers.specs.declared.Block.{Block}
 use Rattle.chip_registers.specs.declared.Block.the-variants.{Control, WindowEntries, ColourMap, GammaMap, CursorGlyph, CursorColours}
 use Rattle.chip_registers.proofs.Block.{the-type}
@@ -14,10 +14,6 @@ use Rattle.chip_registers.proofs.Block.{the-type}
 -- the tags of the blocks but control
 abbrev but-control : List ℕ
 but-control = 1 ∷ 2 ∷ 3 ∷ 4 ∷ 5 ∷ []
-
--- the tags of the blocks but control and the colour map
-abbrev but-both : List ℕ
-but-both = 1 ∷ 3 ∷ 4 ∷ 5 ∷ []
 
 -- a block of these
 abbrev In : List ℕ → Block → Type 0
@@ -40,12 +36,3 @@ stored-writable ColourMap word stored = refl
 stored-writable GammaMap word stored = refl
 stored-writable CursorGlyph word stored = refl
 stored-writable CursorColours word stored = refl
-
--- every block but control and the colour map is in the store, and writes to it act at once
-pub neither-waits : (block : Block) → In but-both block → (inStore block ≡ true) × (waitsIn block ≡ false)
-neither-waits Control other = absurd (miss but-both 0 (tt {0}) other)
-neither-waits WindowEntries other = (refl, refl)
-neither-waits ColourMap other = absurd (miss but-both 2 (tt {0}) other)
-neither-waits GammaMap other = (refl, refl)
-neither-waits CursorGlyph other = (refl, refl)
-neither-waits CursorColours other = (refl, refl)

@@ -1,15 +1,18 @@
 -- The bits that a register keeps: kept bits fit, and what fits is kept whole. Assumes nothing.
-use Prim.Native.Nat.{ℕ, _+_, _^_}
+use Prim.Native.Nat.{ℕ, _+_, _^_, _≤_}
 use mathlib.Core.Path.{_≡_, sym, _∙_}
 use mathlib.Core.Bool.{Bool, true, false, cond}
 use mathlib.Core.Logic.{⊎-elim}
 use native.Mathlib.Omega.{arith}
 use borrow.Author.Tests.{eqb-true, lt-ltb, le-ltb, eq-eqb, ne-eqb}
 use lib.Dec.{ltb, eqb}
-use Rattle.rules.proofs.Cases.{le-or-lt}
-use Rattle.chip_registers.specs.Kept.{only, keptOfControl, keptIn, keptOf, fits}
+use Rattle.rules.proofs.Cases.{impossible, le-or-lt}
+use Rattle.chip_registers.specs.Kept.{only, keptOfControl, keptBy, keptOf, fits}
+use Rattle.words.specs.Field.{bits}
+use Rattle.chip_registers.specs.Blocks.{rowOf}
 use Rattle.chip_registers.specs.declared.Block.{Block}
 use Rattle.chip_registers.specs.declared.Block.the-variants.{Control, WindowEntries, ColourMap, GammaMap, CursorGlyph, CursorColours}
+use Rattle.chip_registers.specs.declared.KeptBits.the-variants.{Lowest}
 use Rattle.chip_registers.specs.declared.Register.{Register}
 
 module _ (word value : ℕ) where
@@ -39,8 +42,17 @@ fields-again true is7 value = omega arith
 fields-again false true value = omega arith
 fields-again false false value = omega arith
 
+-- no word keeps more than 32 bits
+pub kept-width : (block : Block) (width : ℕ) → rowOf block .kept ≡ Lowest width → width ≤ 32
+kept-width Control width is = impossible (cc)
+kept-width WindowEntries width is = let same : 13 ≡ width = cc in omega arith
+kept-width ColourMap width is = let same : 24 ≡ width = cc in omega arith
+kept-width GammaMap width is = let same : 24 ≡ width = cc in omega arith
+kept-width CursorGlyph width is = let same : 32 ≡ width = cc in omega arith
+kept-width CursorColours width is = let same : 24 ≡ width = cc in omega arith
+
 -- block by block, what is kept is kept again
-kept-in-again : (block : Block) (word value : ℕ) → keptIn block word (keptIn block word value) ≡ keptIn block word value
+kept-in-again : (block : Block) (word value : ℕ) → let kept = rowOf block .kept in keptBy kept word (keptBy kept word value) ≡ keptBy kept word value
 unfolding keptOfControl
 kept-in-again Control word value = fields-again (eqb word 0) (eqb word 7) value
 kept-in-again WindowEntries word value = omega arith
@@ -61,11 +73,11 @@ module _ (register : Register) (value : ℕ) where
   fits-kept whole = eqb-true (keptOf register value) value whole
 
 -- a value is its 24 low bits where it is below 2 ^ 24: of a colour, a gamma word and a cursor colour
-pub fits-24 : (value : ℕ) → eqb (only value 23 0) value ≡ ltb value (2 ^ 24)
+pub fits-24 : (value : ℕ) → eqb (bits value 0 24) value ≡ ltb value (2 ^ 24)
 fits-24 value =
     ⊎-elim
-    (λ above. ne-eqb (only value 23 0) value (omega arith) ∙ sym (le-ltb value (2 ^ 24) above))
-    (λ below. eq-eqb (only value 23 0) value (omega arith) ∙ sym (lt-ltb value (2 ^ 24) below))
+    (λ above. ne-eqb (bits value 0 24) value (omega arith) ∙ sym (le-ltb value (2 ^ 24) above))
+    (λ below. eq-eqb (bits value 0 24) value (omega arith) ∙ sym (lt-ltb value (2 ^ 24) below))
     (le-or-lt (2 ^ 24) value)
 
 module _ (word value : ℕ) where

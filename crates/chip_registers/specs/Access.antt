@@ -1,7 +1,8 @@
 -- Which registers can only be read, and which writes wait.
 use Prim.Native.Nat.{ℕ}
-use mathlib.Core.Bool.{Bool, true, false}
+use mathlib.Core.Bool.{Bool, false}
 use lib.Dec.{leb}
+use Rattle.chip_registers.specs.Blocks.{rowOf}
 use Rattle.chip_registers.specs.declared.Block.{Block}
 use Rattle.chip_registers.specs.declared.Block.the-variants.{Control, WindowEntries, ColourMap, GammaMap, CursorGlyph, CursorColours}
 use Rattle.chip_registers.specs.declared.Register.{Register}
@@ -15,19 +16,14 @@ readOnlyIn GammaMap word = false
 readOnlyIn CursorGlyph word = false
 readOnlyIn CursorColours word = false
 
--- so of a register
+-- a register that can only be read
 abbrev pub readOnly : Register → Bool
 readOnly register = readOnlyIn (register .block) (register .word)
 
--- only writes to the colour map wait
+-- a block whose writes wait
 abbrev pub waitsIn : Block → Bool
-waitsIn Control = false
-waitsIn WindowEntries = false
-waitsIn ColourMap = true
-waitsIn GammaMap = false
-waitsIn CursorGlyph = false
-waitsIn CursorColours = false
+waitsIn block = rowOf block .waits
 
--- so of a register
+-- a register whose writes wait
 abbrev pub waits : Register → Bool
 waits register = waitsIn (register .block)

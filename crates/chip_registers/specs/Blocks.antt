@@ -1,27 +1,34 @@
 -- The table of register blocks.
 use Prim.Native.Nat.{ℕ}
+use mathlib.Core.Bool.{Bool, true, false}
 use mathlib.Core.List.{List, [], _∷_}
 use Rattle.chip_registers.specs.declared.Block.{Block}
 use Rattle.chip_registers.specs.declared.Block.the-variants.{Control, WindowEntries, ColourMap, GammaMap, CursorGlyph, CursorColours}
+use Rattle.chip_registers.specs.declared.KeptBits.{KeptBits}
+use Rattle.chip_registers.specs.declared.KeptBits.the-variants.{ByField, Lowest}
+use Rattle.chip_registers.specs.declared.BlockRow.{BlockRow}
 
 -- the blocks, in the table's order
 abbrev pub blocks : List Block
 blocks = Control ∷ WindowEntries ∷ ColourMap ∷ GammaMap ∷ CursorGlyph ∷ CursorColours ∷ []
 
+-- a row of the table, its columns in order
+abbrev row : ℕ → ℕ → KeptBits → Bool → Bool → BlockRow
+row start words kept stored waits = record { start = start; words = words; kept = kept; stored = stored; waits = waits }
+
+--                    from, words, kept bits, in the store, writes wait
+abbrev pub rowOf : Block → BlockRow
+rowOf Control = row 0x000000 11 ByField false false
+rowOf WindowEntries = row 0x010000 32 (Lowest 13) true false
+rowOf ColourMap = row 0x020000 4608 (Lowest 24) true true
+rowOf GammaMap = row 0x030000 256 (Lowest 24) true false
+rowOf CursorGlyph = row 0x040000 64 (Lowest 32) true false
+rowOf CursorColours = row 0x041000 3 (Lowest 24) true false
+
 -- the address of a block's first word
 abbrev pub start : Block → ℕ
-start Control = 0x000000
-start WindowEntries = 0x010000
-start ColourMap = 0x020000
-start GammaMap = 0x030000
-start CursorGlyph = 0x040000
-start CursorColours = 0x041000
+start block = rowOf block .start
 
 -- how many words a block has
 abbrev pub count : Block → ℕ
-count Control = 11
-count WindowEntries = 32
-count ColourMap = 4608
-count GammaMap = 256
-count CursorGlyph = 64
-count CursorColours = 3
+count block = rowOf block .words

@@ -2,9 +2,10 @@
 use Prim.Native.Nat.{ℕ, _+_, _*_, _^_}
 use mathlib.Core.Bool.{Bool, cond}
 use lib.Dec.{eqb}
-use Rattle.words.specs.Field.{field}
-use Rattle.chip_registers.specs.declared.Block.{Block}
-use Rattle.chip_registers.specs.declared.Block.the-variants.{Control, WindowEntries, ColourMap, GammaMap, CursorGlyph, CursorColours}
+use Rattle.words.specs.Field.{bits, field}
+use Rattle.chip_registers.specs.Blocks.{rowOf}
+use Rattle.chip_registers.specs.declared.KeptBits.{KeptBits}
+use Rattle.chip_registers.specs.declared.KeptBits.the-variants.{ByField, Lowest}
 use Rattle.chip_registers.specs.declared.Register.{Register}
 
 -- a value with its bits high..low alone
@@ -18,18 +19,14 @@ keptOfControl word value =
     (cond (eqb word 7) (only value 26 16 + only value 10 0)
     (only value 27 16 + only value 11 0))
 
--- of a window entry 13 bits, of a glyph word all, of the other words 24
-abbrev pub keptIn : Block → ℕ → ℕ → ℕ
-keptIn Control word value = keptOfControl word value
-keptIn WindowEntries word value = only value 12 0
-keptIn ColourMap word value = only value 23 0
-keptIn GammaMap word value = only value 23 0
-keptIn CursorGlyph word value = only value 31 0
-keptIn CursorColours word value = only value 23 0
+-- by field of a control word, else so many bits from bit 0 up
+abbrev pub keptBy : KeptBits → ℕ → ℕ → ℕ
+keptBy ByField word value = keptOfControl word value
+keptBy (Lowest width) word value = bits value 0 width
 
 -- a value with the bits alone that a register keeps
 abbrev pub keptOf : Register → ℕ → ℕ
-keptOf register value = keptIn (register .block) (register .word) value
+keptOf register value = keptBy (rowOf (register .block) .kept) (register .word) value
 
 -- a value has no other bits
 unfoldable pub fits : Register → ℕ → Bool

@@ -17,14 +17,13 @@ use Rattle.line_formats.specs.declared.Format.the-variants.{Index8, Index12, Rg
 use Rattle.line_formats.proofs.Widening.{widened-lt}
 use Rattle.line_colour.specs.Shown.{shownAs}
 use Rattle.line_colour.specs.declared.entry.WindowEntry.{WindowEntry}
-use Rattle.chip_registers.specs.Kept.{only}
 use Rattle.line_pixels.specs.Cells.{Channel, inRed, inGreen, inBlue, channelIn, PixelCell, pixelView}
 use Rattle.line_pixels.specs.Cursor.{cursorAt}
 use Rattle.line_pixels.specs.Colour.{throughGamma, shownColour, normalAt, plainAt, overlaid, overlayAt, underCursor, cursorShown, colourOfPixel}
 use Rattle.line_pixels.specs.declared.Screen.{Screen}
 
 -- 24 kept bits
-kept-below : (word : ℕ) → only word 23 0 < 2 ^ 24
+kept-below : (word : ℕ) → bits word 0 24 < 2 ^ 24
 kept-below word = omega arith
 
 -- a channel of a word has 8 bits

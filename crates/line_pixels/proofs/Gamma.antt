@@ -9,10 +9,9 @@ use lib.Dec.{lit<}
 use lib.ListN.{getD, take, drop}
 use lib.Seq.{getD-take, getD-drop}
 use Rattle.rules.specs.Rule.{value}
-use Rattle.words.specs.Field.{field}
+use Rattle.words.specs.Field.{bits, field}
 use Rattle.words.specs.Channels.{channelsOf, wordOf}
 use Rattle.words.specs.declared.Rgb.{Rgb}
-use Rattle.chip_registers.specs.Kept.{only}
 use Rattle.chip_registers.specs.Store.{stored}
 use Rattle.chip_registers.specs.declared.Block.the-variants.{GammaMap}
 use Rattle.line_colour.specs.Gamma.{corrected}
@@ -24,11 +23,11 @@ abbrev pub gammaWords : List ℕ → List ℕ
 gammaWords store = take 256 (drop 4640 store)
 
 -- the channels of a word are those of its 24 low bits
-channels-kept : (word : ℕ) → channelsOf (only word 23 0) ≡ channelsOf word
+channels-kept : (word : ℕ) → channelsOf (bits word 0 24) ≡ channelsOf word
 channels-kept word =
-    let r : field (only word 23 0) 23 16 ≡ field word 23 16 = omega arith in
-    let g : field (only word 23 0) 15 8 ≡ field word 15 8 = omega arith in
-    let b : field (only word 23 0) 7 0 ≡ field word 7 0 = omega arith in
+    let r : field (bits word 0 24) 23 16 ≡ field word 23 16 = omega arith in
+    let g : field (bits word 0 24) 15 8 ≡ field word 15 8 = omega arith in
+    let b : field (bits word 0 24) 7 0 ≡ field word 7 0 = omega arith in
     rw (r, g, b)
 
 -- the channels of a gamma word, in the store and in its part

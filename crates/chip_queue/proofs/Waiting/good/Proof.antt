@@ -12,7 +12,7 @@ returns : tie.Need-returns
 unfolding goodWrite
 returns c =
     let a = c .before .before .before .args in
-    simp (lt-ltb _ _ (c .before .if1 .taken)) (sym (colour-fits (a .self .entry) (a .self .colour)))
+    simp (lt-ltb _ _ (c .before .if1 .taken)) (sym (colour-fits (a .self .word) (a .self .value)))
 
 returns-2 : tie.Need-returns-2
 unfolding goodWrite

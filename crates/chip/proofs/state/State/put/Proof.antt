@@ -1,24 +1,59 @@
--- `chip::state::State::put` meets its contract: control words, the colour map, and every other block. Assumes nothing.
+-- `chip::state::State::put` meets its contract: into the queue, into the store, or into a control word. Assumes nothing.
 use Prim.Native.Nat.{_<_}
-use mathlib.Core.Path.{ap, sym, _∙_}
+use mathlib.Core.Path.{_≡_, ap, sym, _∙_}
+use mathlib.Core.Bool.{false}
 use native.Mathlib.Omega.{arith}
 use borrow.Author.Needs.{needs}
 use borrow.Author.Tests.{leb-false}
-use Rattle.chip_registers.specs.Store.{storeLength}
-use Rattle.chip_registers.specs.declared.Block.{Block}
-use Rattle.chip_registers.proofs.Store.{store-below}
-use Rattle.chip_registers.proofs.Access.{neither-waits}
-use Rattle.chip.specs.Write.{putIn}
+use Rattle.chip_registers.specs.Store.{storeLength, storePlace}
+use Rattle.chip_registers.specs.Access.{waits}
+use Rattle.chip_registers.specs.declared.Block.the-variants.{Control}
+use Rattle.chip_registers.specs.declared.StorePlace.{StorePlace}
+use Rattle.chip_registers.proofs.Store.{place-below, nowhere-control}
 use Rattle.chip.specs.declared.state.State.{State}
-use Rattle.chip.proofs.Blocks.{stored-put}
+use Rattle.chip.proofs.Places.{put-waits, put-placed}
 use Rattle.chip.proofs.state.State.put.Statement.{statement}
 use Rattle.chip.proofs.state.State.put.Tie as tie
 
--- the register's place in the store is there
-below : (c : tie.After-store-index) → c .store-index .result < storeLength
+-- past the first test the write acts at once
+at-once : (c : tie.Else1) → waits (c .before .before .before .args .register) ≡ false
+at-once c = sym (c .before .waits .ensures) ∙ c .if1 .left
+
+-- the place that the code found
+found : (c : tie.After-store-place) {place : StorePlace} → c .store-place .result ≡ place → storePlace (c .before .before .before .before .args .register) ≡ place
+found c is = sym (c .store-place .ensures) ∙ is
+
+-- a place in the store is one of its words
+below : (c : tie.After-known-told) → c .before .place .given .0 .0 < storeLength
 below c =
-    let s = c .before .before .before in
-    rw (c .store-index .ensures) (store-below (s .args .register) (neither-waits (s .args .register .block) (c .before .match .keys3) .0) (s .pre .1))
+    let p = c .before .before .before in
+    let s = p .before .before .before .before in
+    place-below (s .args .register) _ (found p (c .before .place .given .1)) (s .pre .1)
+
+waits-requires : tie.Need-waits-requires
+waits-requires c κs = search needs
+
+with-waiting-requires : tie.Need-with-waiting-requires
+with-waiting-requires c κs = search needs
+
+returns : tie.Need-returns
+returns c =
+    let t = c .before in
+    let s = t .before .before .before .args in
+    ap (λ (next : State). (next, s .store .now)) (c .with-waiting .ensures)
+    ∙ sym (put-waits (s .self, s .store .now) (s .register) (s .value) (sym (t .before .waits .ensures) ∙ t .if1 .taken))
+
+store-place-requires : tie.Need-store-place-requires
+store-place-requires c κs = search needs
+
+enum-known-place : tie.Need-enum-known-place
+enum-known-place c = search needs
+
+mul-store : tie.Need-mul-store
+mul-store c = omega (arith, below c)
+
+slice-write-store : tie.Need-slice-write-store
+slice-write-store c = omega (arith, below c, c .before .before .before .before .before .before .before .pre .2)
 
 enum-told : tie.Need-enum-told
 enum-told c = search needs
@@ -27,56 +62,43 @@ cast-with-word : tie.Need-cast-with-word
 cast-with-word c = search needs
 
 with-word-requires : tie.Need-with-word-requires
-with-word-requires c κs = leb-false 9 _ (rw (c .before .enum-told .given .1) at (c .before .before .before .before .pre .0))
-
-enum-told-2 : tie.Need-enum-told-2
-enum-told-2 c = search needs
-
-with-waiting-requires : tie.Need-with-waiting-requires
-with-waiting-requires c κs = search needs
-
-store-index-requires : tie.Need-store-index-requires
-store-index-requires c κs = search needs
-
-mul-store : tie.Need-mul-store
-mul-store c = omega (arith, below c)
-
-slice-write-store : tie.Need-slice-write-store
-slice-write-store c = omega (arith, below c, c .before .before .before .pre .2)
-
-returns : tie.Need-returns
-returns c =
-    let s = c .before .before .before .before .before .args in
-    ap (λ (next : State). (next, s .store .now)) (c .with-word .ensures)
-    ∙ sym (ap (λ (block : Block). putIn (s .self, s .store .now) block (s .register) (s .value)) (c .before .before .enum-told .given .1))
-
-returns-2 : tie.Need-returns-2
-returns-2 c =
-    let s = c .before .before .before .before .args in
-    ap (λ (next : State). (next, s .store .now)) (c .with-waiting .ensures)
-    ∙ sym (ap (λ (block : Block). putIn (s .self, s .store .now) block (s .register) (s .value)) (c .before .enum-told2 .given .1))
+with-word-requires c κs =
+    let p = c .before .before in
+    let s = p .before .before .before .before in
+    let control : s .args .register .block ≡ Control = nowhere-control (s .args .register .block) (s .args .register .word) (found p (c .enum-told .given .1)) in
+    leb-false 9 _ (rw control at (s .pre .0))
 
 same-length : tie.Need-same-length
 same-length c = search needs
 
+returns-2 : tie.Need-returns-2
+returns-2 c =
+    let p = c .before .before .before in
+    let s = p .before .before .before .before .args in
+    sym (put-placed (s .self, s .store .now) (s .register) (s .value) (at-once (p .before)) (found p (c .before .place .given .1)))
+
 returns-3 : tie.Need-returns-3
 returns-3 c =
-    let s = c .before .before .before .args in
-    rw (c .store-index .ensures) (let there = neither-waits (s .register .block) (c .before .match .keys3) in sym (stored-put (s .self, s .store .now) (s .register) (s .register .block) (s .value) (there .0) (there .1)))
+    let t = c .before in
+    let p = t .before .before in
+    let s = p .before .before .before .before .args in
+    ap (λ (next : State). (next, s .store .now)) (c .with-word .ensures)
+    ∙ sym (put-placed (s .self, s .store .now) (s .register) (s .value) (at-once (p .before)) (found p (t .enum-told .given .1)))
 
 pub put-spec : {M : Type 1} → statement M
 put-spec =
     tie.close
     (tie.spec
+    waits-requires
+    with-waiting-requires
+    returns
+    store-place-requires
+    enum-known-place
+    mul-store
+    slice-write-store
     enum-told
     cast-with-word
     with-word-requires
-    enum-told-2
-    with-waiting-requires
-    store-index-requires
-    mul-store
-    slice-write-store
-    returns
-    returns-2
     same-length
+    returns-2
     returns-3)
