@@ -8,9 +8,9 @@ use Rattle.chip.specs.declared.report.Report.the-variants.{Nothing, Last}
 use Rattle.c_chip.specs.declared.numbers.Reported.{Reported}
 
 -- the word that a read answers, or 0
-abbrev pub wordOf : Outcome Numbered ℕ → ℕ
-wordOf (ok word) = word
-wordOf (refused refusal) = 0
+abbrev pub wordRead : Outcome Numbered ℕ → ℕ
+wordRead (ok word) = word
+wordRead (refused refusal) = 0
 
 -- what dots reported, one or many
 abbrev pub reportOfDots : Outcome Numbered Report → Report

@@ -10,21 +10,21 @@ use crate::numbers::of_answer;
 use crate::numbers::of_dots;
 use crate::numbers::of_read;
 use crate::numbers::report_of_dots;
-use crate::numbers::word_of;
+use crate::numbers::word_read;
 use c_numbers::Refused;
 use chip::state::State;
 use line::request::Request;
 
 // What a write answers.
 #[repr(C)]
-pub struct Written {
+pub struct WrittenNumbers {
     pub state: State,
     pub refusal: Refused,
 }
 
 // What a read answers: the word that the register shows, or 0.
 #[repr(C)]
-pub struct ReadBack {
+pub struct ReadBackNumbers {
     pub state: State,
     pub refusal: Refused,
     pub word: u32,
@@ -32,7 +32,7 @@ pub struct ReadBack {
 
 // What dots answer, one or many.
 #[repr(C)]
-pub struct Dotted {
+pub struct DottedNumbers {
     pub state: State,
     pub refusal: Refused,
     pub signals: Reported,
@@ -40,7 +40,7 @@ pub struct Dotted {
 
 // What a line answers.
 #[repr(C)]
-pub struct Drawn {
+pub struct DrawnNumbers {
     pub state: State,
     pub refusal: Refused,
 }
@@ -60,13 +60,13 @@ pub extern "C" fn bulitampaw_write(
     store: &mut [u32],
     address: u32,
     value: u32,
-) -> Written
+) -> WrittenNumbers
     ensures { λ r. ⌜ (r, now (store .exit)) ≡ writtenInNumbers (state, now (store .entry)) address value ⌝ }
 {
     let written = state.write(store, address, value);
     let answer = written.answer;
     let next = written.state;
-    Written {
+    WrittenNumbers {
         state: next,
         refusal: of_answer(answer),
     }
@@ -74,28 +74,28 @@ pub extern "C" fn bulitampaw_write(
 
 // One register read.
 #[no_mangle]
-pub extern "C" fn bulitampaw_read(state: State, store: &[u32], address: u32) -> ReadBack
+pub extern "C" fn bulitampaw_read(state: State, store: &[u32], address: u32) -> ReadBackNumbers
     ensures { λ r. ⌜ r ≡ readInNumbers (state, now (store .entry)) address ⌝ }
 {
     let read = state.read(store, address);
     let answer = read.answer;
     let next = read.state;
-    ReadBack {
+    ReadBackNumbers {
         state: next,
         refusal: of_read(answer),
-        word: word_of(answer),
+        word: word_read(answer),
     }
 }
 
 // One dot.
 #[no_mangle]
-pub extern "C" fn bulitampaw_dot(state: State, store: &mut [u32]) -> Dotted
+pub extern "C" fn bulitampaw_dot(state: State, store: &mut [u32]) -> DottedNumbers
     ensures { λ r. ⌜ (r, now (store .exit)) ≡ dottedInNumbers (state, now (store .entry)) ⌝ }
 {
     let dotted = state.dot(store);
     let answer = dotted.answer;
     let next = dotted.state;
-    Dotted {
+    DottedNumbers {
         state: next,
         refusal: of_dots(answer),
         signals: in_numbers(report_of_dots(answer)),
@@ -104,13 +104,13 @@ pub extern "C" fn bulitampaw_dot(state: State, store: &mut [u32]) -> Dotted
 
 // So many dots.
 #[no_mangle]
-pub extern "C" fn bulitampaw_dots(state: State, store: &mut [u32], count: u32) -> Dotted
+pub extern "C" fn bulitampaw_dots(state: State, store: &mut [u32], count: u32) -> DottedNumbers
     ensures { λ r. ⌜ (r, now (store .exit)) ≡ ranInNumbers (state, now (store .entry)) count ⌝ }
 {
     let ran = state.dots(store, count);
     let answer = ran.answer;
     let next = ran.state;
-    Dotted {
+    DottedNumbers {
         state: next,
         refusal: of_dots(answer),
         signals: in_numbers(report_of_dots(answer)),
@@ -127,14 +127,14 @@ pub extern "C" fn bulitampaw_line(
     normal: &[u8],
     overlay: &[u8],
     output: &mut [u32],
-) -> Drawn
+) -> DrawnNumbers
     ensures { λ r. ⌜ (r, now (output .exit)) ≡ drawnInNumbers (requestOf state y) (lentOf (now (store .entry)) (now (table .entry)) (now (normal .entry)) (now (overlay .entry))) (now (output .entry)) ⌝ }
 {
     let request = Request { state, y };
     let drawn = line::draw::draw(request, store, table, normal, overlay, output);
     let answer = drawn.answer;
     let next = drawn.state;
-    Drawn {
+    DrawnNumbers {
         state: next,
         refusal: of_answer(answer),
     }

@@ -4,7 +4,7 @@ ghost use Rattle.refusals.specs.Refusal.{answerOutcome};
 ghost use Rattle.c_numbers.specs.Numbers.{refusalOf};
 ghost use Rattle.chip.specs.Read.{readOutcome};
 ghost use Rattle.chip.specs.Report.{dotsOutcome};
-ghost use Rattle.c_chip.specs.Reports.{wordOf, reportOfDots, inNumbers};
+ghost use Rattle.c_chip.specs.Reports.{wordRead, reportOfDots, inNumbers};
 use c_numbers::Refused;
 use c_numbers::nothing;
 use c_numbers::refused_by;
@@ -52,8 +52,8 @@ pub(crate) fn of_dots(answer: chip::report::DotsAnswer) -> Refused
 }
 
 // The word that was read, or 0.
-pub(crate) fn word_of(answer: chip::read::ReadAnswer) -> u32
-    ensures { λ r. ⌜ r ≡ wordOf (readOutcome answer) ⌝ }
+pub(crate) fn word_read(answer: chip::read::ReadAnswer) -> u32
+    ensures { λ r. ⌜ r ≡ wordRead (readOutcome answer) ⌝ }
 {
     match answer {
         chip::read::ReadAnswer::Word(word) => word,

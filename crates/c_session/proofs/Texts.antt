@@ -24,7 +24,7 @@ use Rattle.session.specs.Step.{stepFaults, Left, afterStep, sessionStep}
 use Rattle.session.specs.declared.session.Session.{Session}
 use Rattle.c_session.specs.Steps.{textRoom, shortText, textFault, statusInNumbers, textBy, stepAnswer, stepLeft, stepInNumbers}
 use Rattle.c_session.specs.Inner.{putEntry, putText, orText}
-use Rattle.c_session.specs.declared.steps.Stepped.{Stepped}
+use Rattle.c_session.specs.declared.steps.SteppedNumbers.{SteppedNumbers}
 
 -- by its test a fault comes first, or what comes of the others
 by-fault : (test : Bool) (one other : Numbered) (rest : Outcome Numbered (Unit {0})) → orText rest ≡ refusedBy other
@@ -62,7 +62,7 @@ module _ (output lent : List ℕ) (long : textRoom ≤ length lent) where
 module _ (session : Session) (rooms : Rooms) (lent bytes : List ℕ) (place : ℕ) (last : Bool) where
   -- with a text too short a step is refused
   pub step-short : length lent < textRoom
-      → _≡_ {A = Stepped × (Rooms × List ℕ)}
+      → _≡_ {A = SteppedNumbers × (Rooms × List ℕ)}
       (stepAnswer (session, place) (record { status = 0; refusal = orText (verdict (stepFaults session rooms)) }) 0, (rooms, lent))
       (stepInNumbers session rooms lent bytes place last)
   unfolding stepInNumbers
@@ -89,7 +89,7 @@ module _ (session : Session) (rooms : Rooms) (lent bytes : List ℕ) (place : �
   -- a step and its text, from what the session's step and the putting of its text left
   pub step-made : {left : Left × Outcome Numbered Status} {put : ℕ × List ℕ} → left ≡ sessionStep session rooms bytes place last
       → put ≡ putText (left .1) (left .0 .1 .output) lent → length (left .0 .1 .output) ≡ length (rooms .output) → textRoom ≤ length lent
-      → _≡_ {A = Stepped × (Rooms × List ℕ)}
+      → _≡_ {A = SteppedNumbers × (Rooms × List ℕ)}
       (stepAnswer (left .0 .0) (statusInNumbers (left .1)) (put .0), (left .0 .1, put .1))
       (stepInNumbers session rooms lent bytes place last)
   step-made {left} {put} stepped text-is same long =

@@ -17,7 +17,7 @@ use Rattle.session.specs.Lent.{Rooms, laid}
 use Rattle.session.specs.Step.{stepFaults, Left, afterStep}
 use Rattle.session.specs.declared.session.Session.{Session}
 use Rattle.c_session.specs.declared.steps.StatusNumbers.{StatusNumbers}
-use Rattle.c_session.specs.declared.steps.Stepped.{Stepped}
+use Rattle.c_session.specs.declared.steps.SteppedNumbers.{SteppedNumbers}
 
 -- the bytes in which every entry's text has room: 32, and 7 for each pixel of the longest line
 abbrev pub textRoom : ℕ
@@ -61,7 +61,7 @@ textBy (ok status) output = textOf output status
 textBy (refused refusal) output = []
 
 -- a step's answer: session and next place, status and refusal, and how many bytes of text were put
-abbrev pub stepAnswer : Session × ℕ → StatusNumbers → ℕ → Stepped
+abbrev pub stepAnswer : Session × ℕ → StatusNumbers → ℕ → SteppedNumbers
 stepAnswer left numbers put =
     record {
       session = left .0;
@@ -72,11 +72,11 @@ stepAnswer left numbers put =
     }
 
 -- what it answers and leaves: by what the call left and came to, with the text at the front of the lent bytes
-abbrev pub stepLeft : Left × Outcome Numbered Status → List ℕ → Stepped × (Rooms × List ℕ)
+abbrev pub stepLeft : Left × Outcome Numbered Status → List ℕ → SteppedNumbers × (Rooms × List ℕ)
 stepLeft all lent =
     let text = textBy (all .1) (all .0 .1 .output) in
     (stepAnswer (all .0 .0) (statusInNumbers (all .1)) (length text), (all .0 .1, laid lent text))
 
 -- what a call answers and leaves
-unfoldable pub stepInNumbers : Session → Rooms → List ℕ → List ℕ → ℕ → Bool → Stepped × (Rooms × List ℕ)
+unfoldable pub stepInNumbers : Session → Rooms → List ℕ → List ℕ → ℕ → Bool → SteppedNumbers × (Rooms × List ℕ)
 stepInNumbers session rooms lent bytes place last = stepLeft (called session rooms lent bytes place last) lent

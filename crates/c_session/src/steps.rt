@@ -47,7 +47,7 @@ pub const STATUS_STOPPED: u32 = 4;
 
 // What a step answers.
 #[repr(C)]
-pub struct Stepped {
+pub struct SteppedNumbers {
     // The session after it.
     pub session: Session,
     // Where the next record starts.
@@ -173,7 +173,7 @@ pub extern "C" fn bulitampaw_step(
     overlay: &mut [u8],
     output: &mut [u32],
     text: &mut [u8],
-) -> Stepped
+) -> SteppedNumbers
     ensures { λ r. ⌜ (r, (roomsOf (now (store .exit)) (now (table .exit)) (now (normal .exit)) (now (overlay .exit)) (now (output .exit)), now (text .exit))) ≡ stepInNumbers session (roomsOf (now (store .entry)) (now (table .entry)) (now (normal .entry)) (now (overlay .entry)) (now (output .entry))) (now (text .entry)) (now (bytes .entry)) place (not (eqb last 0)) ⌝ }
 {
     if text.len() < TEXT_ROOM {
@@ -186,7 +186,7 @@ pub extern "C" fn bulitampaw_step(
             overlay.len(),
             output.len(),
         );
-        return Stepped {
+        return SteppedNumbers {
             session,
             next: place,
             text: 0,
@@ -210,7 +210,7 @@ pub extern "C" fn bulitampaw_step(
     let status = status_in_numbers(answer);
     let refusal = status.refusal;
     let next = stepped.session;
-    Stepped {
+    SteppedNumbers {
         session: next,
         next: stepped.place,
         text: put,

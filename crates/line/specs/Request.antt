@@ -8,5 +8,5 @@ abbrev pub requestOf : State → ℕ → Request
 requestOf state y = record { state = state; y = y }
 
 -- what is asked for, with another state in place of its own
-abbrev pub withState : Request → State → Request
-withState request state = record { state = state; y = request .y }
+abbrev pub requestWith : Request → State → Request
+requestWith request state = record { state = state; y = request .y }

@@ -10,7 +10,7 @@ use Rattle.chip.specs.declared.state.State.{State}
 use Rattle.line_setup.specs.declared.setup.Setup.{Setup}
 use Rattle.line.specs.Cells.{Lent, view}
 use Rattle.line.specs.Line.{lineRule, lineOf}
-use Rattle.line.specs.Request.{withState}
+use Rattle.line.specs.Request.{requestWith}
 use Rattle.line.specs.Drawn.{setupOf, drawn, withoutColours}
 use Rattle.line.specs.declared.request.Request.{Request}
 use Rattle.line_reads.specs.Calls.{SameLengths, AgreeOnReads}
@@ -35,7 +35,7 @@ setup-rests request lent other output same = rw (same .store, same .table, same 
 
 -- of the state only the control words count, and that it keeps its rule
 pub setup-inner : (request : Request) (inner : State) (lent : Lent) (output : ℕ) → request .state .control ≡ inner .control
-    → goodState (request .state) ≡ goodState inner → setupOf request lent output ≡ setupOf (withState request inner) lent output
+    → goodState (request .state) ≡ goodState inner → setupOf request lent output ≡ setupOf (requestWith request inner) lent output
 unfolding setupOf
 setup-inner request inner lent output words good = rw (good, words) refl
 
@@ -50,7 +50,7 @@ module _ (request : Request) (lent other : Lent) (same : SameLengths lent other)
 
   -- nothing is asked of position and queue: another state with the same control words that keeps its rule as the first does has the same outcome
   pub inner-rests : (inner : State) (output : ℕ) → request .state .control ≡ inner .control → goodState (request .state) ≡ goodState inner
-      → AgreeOnReads (setupOf request lent output) lent other → lineOf (setupOf request lent output) lent ≡ lineOf (setupOf (withState request inner) other output) other
+      → AgreeOnReads (setupOf request lent output) lent other → lineOf (setupOf request lent output) lent ≡ lineOf (setupOf (requestWith request inner) other output) other
   inner-rests inner output words good agree =
       outcome-rests output agree ∙ ap (λ (setup : Setup). lineOf setup other) (setup-inner request inner other output words good)
 

@@ -19,7 +19,7 @@ use Rattle.line_setup.specs.declared.setup.Setup.{Setup}
 use Rattle.line.specs.Cells.{ofTable, windowEntry, ofColour, Lent, lentOf, view}
 use Rattle.line.specs.Line.{lineOf}
 use Rattle.line_reads.specs.Listed.{PixelListed, Listed, AgreeOnList}
-use Rattle.line_reads.specs.Hidden.{withStore, withTable, withNormal, withOverlay, SameChosen, SameHalves, SameUncovered, SameSeen, SameOverlaid, SameFields, SameCounting, SameMet}
+use Rattle.line_reads.specs.Hidden.{otherStore, otherTable, otherNormal, otherOverlay, SameChosen, SameHalves, SameUncovered, SameSeen, SameOverlaid, SameFields, SameCounting, SameMet}
 use Rattle.line_reads.proofs.Before.{refused-line-reads}
 use Rattle.line_reads.proofs.AllListed.{listed-reads}
 use Rattle.line_reads.proofs.ByList.{line-rests-on-list}
@@ -58,11 +58,11 @@ module _ (setup : Setup) (lent : Lent) where
 
   module _ (row : List ℕ) where
     -- what is seen of the normal row decides
-    pub normal-rests : SameSeen setup lent row → lineOf setup lent ≡ lineOf setup (withNormal lent row)
-    normal-rests same = by-colours (withNormal lent row) (λ cell listed. refl) (λ id listed. refl) by
+    pub normal-rests : SameSeen setup lent row → lineOf setup lent ≡ lineOf setup (otherNormal lent row)
+    normal-rests same = by-colours (otherNormal lent row) (λ cell listed. refl) (λ id listed. refl) by
       where
         -- of the cells that a pixel shows only samples are of the normal row
-        by : (cell : PixelCell) → PixelListed setup lent cell → view lent (ofColour cell) ≡ view (withNormal lent row) (ofColour cell)
+        by : (cell : PixelCell) → PixelListed setup lent cell → view lent (ofColour cell) ≡ view (otherNormal lent row) (ofColour cell)
         by (glyph r c) listed = refl
         by (cursorColour number) listed = refl
         by (overlayByte x) listed = refl
@@ -70,31 +70,31 @@ module _ (setup : Setup) (lent : Lent) where
             let at = listed .listed in
             ap (view lent) (ap ofColour (at .used))
             ∙ same (listed .pixel) (listed .active) (listed .entry) (listed .has) (at .transparent) (at .overlay-transparent)
-            ∙ ap (view (withNormal lent row)) (ap ofColour (sym (at .used)))
+            ∙ ap (view (otherNormal lent row)) (ap ofColour (sym (at .used)))
         by (mapEntry number) listed = refl
         by (gamma channel number) listed = refl
 
     -- another back buffer changes nothing
-    pub other-back-buffer : SameChosen setup lent row → lineOf setup lent ≡ lineOf setup (withNormal lent row)
+    pub other-back-buffer : SameChosen setup lent row → lineOf setup lent ≡ lineOf setup (otherNormal lent row)
     other-back-buffer same = normal-rests (λ x active entry has clear under. same x active entry has)
 
     -- where each window takes half a pixel, other halves change nothing
-    pub other-halves : SameHalves setup lent row → lineOf setup lent ≡ lineOf setup (withNormal lent row)
+    pub other-halves : SameHalves setup lent row → lineOf setup lent ≡ lineOf setup (otherNormal lent row)
     other-halves same =
         other-back-buffer (λ x active entry has.
         fewer-bits (pixelWord (setup .controls .depth) (lent .normal) x) (pixelWord (setup .controls .depth) row x) (entry .low)
         (widthsOf (entry .format) .bits) (setup .controls .depth / 2) (same x active entry has .0) (same x active entry has .1))
 
     -- other samples under an opaque overlay or cursor change nothing
-    pub other-covered-samples : SameUncovered setup lent row → lineOf setup lent ≡ lineOf setup (withNormal lent row)
+    pub other-covered-samples : SameUncovered setup lent row → lineOf setup lent ≡ lineOf setup (otherNormal lent row)
     other-covered-samples same = normal-rests (λ x active entry has clear under. ap (sampleOf entry) (same x active entry has clear under))
 
     -- other overlay bytes under an opaque cursor, or where overlay doesn't count, change nothing
-    pub other-overlay : SameOverlaid setup lent row → lineOf setup lent ≡ lineOf setup (withOverlay lent row)
-    other-overlay same = by-colours (withOverlay lent row) (λ cell listed. refl) (λ id listed. refl) by
+    pub other-overlay : SameOverlaid setup lent row → lineOf setup lent ≡ lineOf setup (otherOverlay lent row)
+    other-overlay same = by-colours (otherOverlay lent row) (λ cell listed. refl) (λ id listed. refl) by
       where
         -- of the cells that a pixel shows only the overlay byte is of the overlay row
-        by : (cell : PixelCell) → PixelListed setup lent cell → view lent (ofColour cell) ≡ view (withOverlay lent row) (ofColour cell)
+        by : (cell : PixelCell) → PixelListed setup lent cell → view lent (ofColour cell) ≡ view (otherOverlay lent row) (ofColour cell)
         by (glyph r c) listed = refl
         by (cursorColour number) listed = refl
         by (overlayByte x) listed =
@@ -105,20 +105,20 @@ module _ (setup : Setup) (lent : Lent) where
         by (gamma channel number) listed = refl
 
     -- where overlay is off, any overlay row has the same outcome
-    pub overlay-off : setup .controls .overlay ≡ false → lineOf setup lent ≡ lineOf setup (withOverlay lent row)
+    pub overlay-off : setup .controls .overlay ≡ false → lineOf setup lent ≡ lineOf setup (otherOverlay lent row)
     overlay-off off = other-overlay (λ x active entry has clear counts. impossible (cc (rw off at counts)))
 
   -- ---- the store
 
   module _ (store : List ℕ) where
     -- other windows that are not on the line, other colours that no pixel shows and other bits that are not kept change nothing
-    pub other-unused : SameCounting setup lent store → lineOf setup lent ≡ lineOf setup (withStore lent store)
+    pub other-unused : SameCounting setup lent store → lineOf setup lent ≡ lineOf setup (otherStore lent store)
     other-unused same =
-        by-colours (withStore lent store) (λ cell listed. refl)
+        by-colours (otherStore lent store) (λ cell listed. refl)
         (λ id listed. same (record { block = WindowEntries; word = id }) (window-active setup lent id listed)) by
       where
         -- each cell of the store that a pixel shows is part of a word that counts
-        by : (cell : PixelCell) → PixelListed setup lent cell → view lent (ofColour cell) ≡ view (withStore lent store) (ofColour cell)
+        by : (cell : PixelCell) → PixelListed setup lent cell → view lent (ofColour cell) ≡ view (otherStore lent store) (ofColour cell)
         by (glyph r c) listed =
             ap (λ (word : ℕ). bits word (30 - 2 * (c % 16)) 2)
             (same (record { block = CursorGlyph; word = 2 * r + c / 16 }) (r, (c, (refl, listed))))
@@ -136,13 +136,13 @@ module _ (setup : Setup) (lent : Lent) where
 
   module _ (table : List ℕ) where
     -- other entries that the line doesn't read, and other bits that are ignored, change nothing
-    pub other-ignored-bits : SameFields setup lent table → lineOf setup lent ≡ lineOf setup (withTable lent table)
-    other-ignored-bits same = by-colours (withTable lent table) same (λ id listed. refl) (λ cell listed. refl)
+    pub other-ignored-bits : SameFields setup lent table → lineOf setup lent ≡ lineOf setup (otherTable lent table)
+    other-ignored-bits same = by-colours (otherTable lent table) same (λ id listed. refl) (λ cell listed. refl)
 
     -- where window IDs are off, any table has the same outcome
-    pub other-table : setup .controls .ids ≡ false → lineOf setup lent ≡ lineOf setup (withTable lent table)
+    pub other-table : setup .controls .ids ≡ false → lineOf setup lent ≡ lineOf setup (otherTable lent table)
     other-table off =
-        by-colours (withTable lent table) (λ cell listed. impossible (cc (table-on setup lent cell listed))) (λ id listed. refl) (λ cell listed. refl)
+        by-colours (otherTable lent table) (λ cell listed. impossible (cc (table-on setup lent cell listed))) (λ id listed. refl) (λ cell listed. refl)
 
   -- ---- a line that is refused
 

@@ -24,20 +24,20 @@ use Rattle.line_reads.specs.ColourList.{cursorHere, overlayHere}
 use Rattle.line_reads.specs.Listed.{PixelListed, Listed}
 
 -- what is lent, with this store in place of its own
-abbrev pub withStore : Lent → List ℕ → Lent
-withStore lent store = lentOf store (lent .table) (lent .normal) (lent .overlay)
+abbrev pub otherStore : Lent → List ℕ → Lent
+otherStore lent store = lentOf store (lent .table) (lent .normal) (lent .overlay)
 
 -- what is lent, with this table in place of its own
-abbrev pub withTable : Lent → List ℕ → Lent
-withTable lent table = lentOf (lent .store) table (lent .normal) (lent .overlay)
+abbrev pub otherTable : Lent → List ℕ → Lent
+otherTable lent table = lentOf (lent .store) table (lent .normal) (lent .overlay)
 
 -- what is lent, with this normal row in place of its own
-abbrev pub withNormal : Lent → List ℕ → Lent
-withNormal lent normal = lentOf (lent .store) (lent .table) normal (lent .overlay)
+abbrev pub otherNormal : Lent → List ℕ → Lent
+otherNormal lent normal = lentOf (lent .store) (lent .table) normal (lent .overlay)
 
 -- what is lent, with this overlay row in place of its own
-abbrev pub withOverlay : Lent → List ℕ → Lent
-withOverlay lent overlay = lentOf (lent .store) (lent .table) (lent .normal) overlay
+abbrev pub otherOverlay : Lent → List ℕ → Lent
+otherOverlay lent overlay = lentOf (lent .store) (lent .table) (lent .normal) overlay
 
 -- the register of a window entry
 abbrev windowOf : ℕ → Register
@@ -103,17 +103,17 @@ module _ (setup : Setup) (lent : Lent) where
   -- ---- the store
 
   -- a word counts where it is the window entry of an ID that an active pixel has, or a word of the glyph, a cursor colour, a map entry or a gamma word that an active pixel shows
-  abbrev pub Counts : Block → ℕ → Type 0
-  Counts Control word = ⊥
-  Counts WindowEntries word = WindowListed setup lent (setup .controls .width) word
-  Counts ColourMap word = PixelListed setup lent (mapEntry word)
-  Counts GammaMap word = (channel : Channel) × PixelListed setup lent (gamma channel word)
-  Counts CursorGlyph word = (row : ℕ) × ((column : ℕ) × ((word ≡ 2 * row + column / 16) × PixelListed setup lent (glyph row column)))
-  Counts CursorColours word = PixelListed setup lent (cursorColour (suc word))
+  abbrev pub WordCounts : Block → ℕ → Type 0
+  WordCounts Control word = ⊥
+  WordCounts WindowEntries word = WindowListed setup lent (setup .controls .width) word
+  WordCounts ColourMap word = PixelListed setup lent (mapEntry word)
+  WordCounts GammaMap word = (channel : Channel) × PixelListed setup lent (gamma channel word)
+  WordCounts CursorGlyph word = (row : ℕ) × ((column : ℕ) × ((word ≡ 2 * row + column / 16) × PixelListed setup lent (glyph row column)))
+  WordCounts CursorColours word = PixelListed setup lent (cursorColour (suc word))
 
   -- other windows that are not on the line, other colours that no pixel shows, and other bits that are not kept: of the words that count the kept bits are the same
   abbrev pub SameCounting : List ℕ → Type 0
-  SameCounting store = (register : Register) → Counts (register .block) (register .word) → stored (lent .store) register ≡ stored store register
+  SameCounting store = (register : Register) → WordCounts (register .block) (register .word) → stored (lent .store) register ≡ stored store register
 
   -- of the window entries that a line meets before it is refused, the kept bits are the same
   abbrev pub SameMet : List ℕ → Type 0

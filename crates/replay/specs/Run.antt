@@ -25,19 +25,19 @@ abbrev pub withPut : Course → ℕ → Course
 withPut course put = record { from = course .from; to = course .to; last = course .last; put = put; going = course .going }
 
 -- a run that is ended so
-abbrev pub ended : Course → Going → Course
-ended course going = record { from = course .from; to = course .to; last = course .last; put = course .put; going = going }
+abbrev pub courseEnded : Course → Going → Course
+courseEnded course going = record { from = course .from; to = course .to; last = course .last; put = course .put; going = going }
 
 -- the run goes on
-abbrev pub goesOn : Going → Bool
-goesOn On = true
-goesOn Over = false
-goesOn Unread = false
-goesOn Unwritten = false
+abbrev pub courseGoesOn : Going → Bool
+courseGoesOn On = true
+courseGoesOn Over = false
+courseGoesOn Unread = false
+courseGoesOn Unwritten = false
 
 -- on at the next record, or over with an answer
 abbrev pub movedBy : StepAnswer → ℕ → Course → Course
-movedBy answer place course = cond (over answer) (ended (withFrom course place) Over) (withFrom course place)
+movedBy answer place course = cond (over answer) (courseEnded (withFrom course place) Over) (withFrom course place)
 
 -- an entry's text behind the text that waits
 abbrev pub putBehind : EntrySays → List ℕ → List ℕ → Course → Course × List ℕ

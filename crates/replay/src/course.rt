@@ -1,6 +1,6 @@
 // How far a file is run.
 ghost use mathlib.Core.Path.{_≡_};
-ghost use Rattle.replay.specs.Run.{begun, withFrom, withPut, ended, goesOn};
+ghost use Rattle.replay.specs.Run.{begun, withFrom, withPut, courseEnded, courseGoesOn};
 
 // How a run goes on.
 pub enum Going {
@@ -60,7 +60,7 @@ impl Course {
 
     // With the run ended.
     pub(crate) fn ending(self, going: Going) -> Self
-        ensures { λ r. ⌜ r ≡ ended self going ⌝ }
+        ensures { λ r. ⌜ r ≡ courseEnded self going ⌝ }
     {
         Self {
             from: self.from,
@@ -73,7 +73,7 @@ impl Course {
 
     // Whether the run goes on.
     pub(crate) fn goes_on(self) -> bool
-        ensures { λ r. ⌜ r ≡ goesOn (self .going) ⌝ }
+        ensures { λ r. ⌜ r ≡ courseGoesOn (self .going) ⌝ }
     {
         let going = self.going;
         match going {

@@ -6,7 +6,7 @@ use native.Mathlib.Nat.{div-one}
 use lib.ListN.{length, take, length-take}
 use Rattle.session_listing.specs.Digits.{digit, hex}
 use Rattle.session_listing.specs.Text.{EntrySays, saysOk, saysAt, saysLine, saysRefused, ended, coloursShown, text}
-use Rattle.session_listing.specs.Inner.{countShown, lineAnd, PartsOf}
+use Rattle.session_listing.specs.Inner.{countShown, partsText, PartsOf}
 use Rattle.session_listing.specs.declared.parts.Parts.{Parts}
 use Rattle.session_listing.proofs.Pixels.{take-taken}
 
@@ -32,6 +32,6 @@ shown-taken (saysLine y width) output = take-taken width output
 shown-taken (saysRefused refusal) output = refl
 
 -- an entry's parts, and the colours that these show, make its text
-pub whole-text : (listed : EntrySays) (output : List ℕ) (parts : Parts) → PartsOf listed (length output) parts → lineAnd parts (take (parts .pixels) output) ≡ text listed output
+pub whole-text : (listed : EntrySays) (output : List ℕ) (parts : Parts) → PartsOf listed (length output) parts → partsText parts (take (parts .pixels) output) ≡ text listed output
 unfolding text
 whole-text listed output parts told = rw (told .says, told .shows, shown-length listed output, shown-taken listed output)

@@ -18,12 +18,12 @@ abbrev pub allWords : List ℕ
 allWords = ascii "okatlinerefused"
 
 -- the first line of some parts
-abbrev pub lineOf : Parts → List ℕ
-lineOf parts = take (parts .letters) (drop (parts .from) allWords) ++ spaced (take (parts .numbers) (parts .first ∷ parts .second ∷ []))
+abbrev pub partsLine : Parts → List ℕ
+partsLine parts = take (parts .letters) (drop (parts .from) allWords) ++ spaced (take (parts .numbers) (parts .first ∷ parts .second ∷ []))
 
 -- the first line, and each of some colours on a line of its own
-abbrev pub lineAnd : Parts → List ℕ → List ℕ
-lineAnd parts colours = ended (lineOf parts) ++ pixels colours
+abbrev pub partsText : Parts → List ℕ → List ℕ
+partsText parts colours = ended (partsLine parts) ++ pixels colours
 
 -- how many colours an entry shows of so many
 abbrev pub countShown : EntrySays → ℕ → ℕ
@@ -34,7 +34,7 @@ countShown (saysRefused refusal) count = 0
 
 -- these parts are an entry's, where the output has so many colours
 pub record PartsOf (listed : EntrySays) (count : ℕ) (parts : Parts) : Type 0 where
-  pub says : lineOf parts ≡ firstLine listed
+  pub says : partsLine parts ≡ firstLine listed
   pub shows : parts .pixels ≡ countShown listed count
   pub few : parts .pixels ≤ count
   pub inside : parts .from + parts .letters ≤ 15

@@ -5,7 +5,7 @@ ghost use mathlib.Core.List.{[], _∷_};
 ghost use lib.ListN.{length, take, drop};
 ghost use Rattle.session_listing.specs.Digits.{digit, decimal, hex};
 ghost use Rattle.session_listing.specs.Text.{ended, spaced, pixels};
-ghost use Rattle.session_listing.specs.Inner.{Put, allWords, lineOf};
+ghost use Rattle.session_listing.specs.Inner.{Put, allWords, partsLine};
 use crate::parts::Parts;
 use crate::parts::letter;
 
@@ -59,7 +59,7 @@ fn put_word(lent: &mut [u8], at: usize, from: usize, letters: usize) -> usize
 // A first line, without its end.
 pub(crate) fn put_parts(lent: &mut [u8], at: usize, parts: Parts) -> usize
     requires { ⌜ (parts .from + parts .letters ≤ 15) × (parts .letters ≤ 7) × (at + 31 ≤ length (now lent)) ⌝ }
-    ensures { λ r. ⌜ Put (now (lent .entry)) at (lineOf parts) (now (lent .exit)) r × (r ≤ at + 31) ⌝ }
+    ensures { λ r. ⌜ Put (now (lent .entry)) at (partsLine parts) (now (lent .exit)) r × (r ≤ at + 31) ⌝ }
 {
     let word = put_word(lent, at, parts.from, parts.letters);
     if parts.numbers == 0 {

@@ -4,7 +4,7 @@ ghost use mathlib.Core.Path.{_≡_};
 ghost use lib.ListN.{length, take};
 ghost use Rattle.session_listing.specs.Text.{entrySays};
 ghost use Rattle.session_listing.specs.Room.{roomOf, rendered};
-ghost use Rattle.session_listing.specs.Inner.{Put, lineAnd};
+ghost use Rattle.session_listing.specs.Inner.{Put, partsText};
 use crate::entry::ListingEntry;
 use crate::parts::Parts;
 use crate::put::put_parts;
@@ -27,7 +27,7 @@ pub enum Rendered {
 // A first line and the pixels that follow it.
 fn put_entry(parts: Parts, output: &[u32], lent: &mut [u8], at: usize) -> usize
     requires { ⌜ (parts .from + parts .letters ≤ 15) × (parts .letters ≤ 7) × (parts .pixels ≤ length (now output)) × (at + roomOf (parts .pixels) ≤ length (now lent)) ⌝ }
-    ensures { λ r. ⌜ Put (now (lent .entry)) at (lineAnd parts (take (parts .pixels) (now (output .entry)))) (now (lent .exit)) r ⌝ }
+    ensures { λ r. ⌜ Put (now (lent .entry)) at (partsText parts (take (parts .pixels) (now (output .entry)))) (now (lent .exit)) r ⌝ }
 {
     let last = put_parts(lent, at, parts);
     lent[last] = b'\n';

@@ -4,14 +4,14 @@ use mathlib.Core.Bool.{Bool, _&&_}
 use mathlib.Core.List.{List, [], _∷_}
 use lib.Dec.{leb, ltb}
 use lib.ListN.{length, getD}
-use Rattle.session_records.specs.declared.tags.Lengths.{Lengths}
+use Rattle.session_records.specs.declared.tags.BodyLengths.{BodyLengths}
 
 -- one length alone
-abbrev pub just : ℕ → Lengths
+abbrev pub just : ℕ → BodyLengths
 just count = record { least = count; most = count }
 
 -- every length up to one
-abbrev pub upTo : ℕ → Lengths
+abbrev pub upTo : ℕ → BodyLengths
 upTo count = record { least = 0; most = count }
 
 -- the bytes of the longest normal row
@@ -35,7 +35,7 @@ abbrev pub mostRecords : ℕ
 mostRecords = 1000000
 
 -- by tag: 0 end, 1 write, 2 dots, 3 table bytes, 4 normal row, 5 overlay row, 6 line; table bytes have any length that two bytes can say
-abbrev pub allowed : List Lengths
+abbrev pub allowed : List BodyLengths
 allowed = just 0 ∷ just 8 ∷ just 4 ∷ upTo 65535 ∷ upTo longestNormal ∷ upTo longestOverlay ∷ just 2 ∷ []
 
 -- there is a record with this tag
@@ -43,7 +43,7 @@ abbrev pub known : ℕ → Bool
 known tag = ltb tag (length allowed)
 
 -- the lengths of a tag
-abbrev pub lengthsOf : ℕ → Lengths
+abbrev pub lengthsOf : ℕ → BodyLengths
 lengthsOf tag = getD allowed tag (just 0)
 
 -- a tag allows a length

@@ -27,7 +27,7 @@ pub(crate) const OVERLAY: u8 = 5;
 pub(crate) const LINE: u8 = 6;
 
 // The shortest and the longest body.
-pub struct Lengths {
+pub struct BodyLengths {
     // Of the shortest.
     pub least: usize,
     // Of the longest.
@@ -35,27 +35,27 @@ pub struct Lengths {
 }
 
 // One length alone.
-fn just(length: usize) -> Lengths
+fn just(length: usize) -> BodyLengths
     ensures { λ r. ⌜ r ≡ just length ⌝ }
 {
-    Lengths {
+    BodyLengths {
         least: length,
         most: length,
     }
 }
 
 // Every length up to one.
-fn up_to(length: usize) -> Lengths
+fn up_to(length: usize) -> BodyLengths
     ensures { λ r. ⌜ r ≡ upTo length ⌝ }
 {
-    Lengths {
+    BodyLengths {
         least: 0,
         most: length,
     }
 }
 
 // The lengths of a tag.
-fn lengths_of(tag: u8) -> Lengths
+fn lengths_of(tag: u8) -> BodyLengths
     ensures { λ r. ⌜ r ≡ lengthsOf tag ⌝ }
 {
     match tag {

@@ -15,14 +15,14 @@ read-requires c κs = search needs
 of-read-requires : tie.Need-of-read-requires
 of-read-requires c κs = search needs
 
-word-of-requires : tie.Need-word-of-requires
-word-of-requires c κs = search needs
+word-read-requires : tie.Need-word-read-requires
+word-read-requires c κs = search needs
 
 returns : tie.Need-returns
 unfolding readInNumbers
 returns c =
-    rw (c .before .of-read .ensures, c .word-of .ensures)
+    rw (c .before .of-read .ensures, c .word-read .ensures)
     (ap (λ (all : Chip × Outcome Numbered ℕ). readAnswer (all .0 .0) (all .1)) (c .before .before .before .read .ensures))
 
 pub bulitampaw-read-spec : {M : Type 1} → statement M
-bulitampaw-read-spec = tie.close (tie.spec read-requires of-read-requires word-of-requires returns)
+bulitampaw-read-spec = tie.close (tie.spec read-requires of-read-requires word-read-requires returns)

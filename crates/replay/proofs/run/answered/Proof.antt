@@ -6,7 +6,7 @@ use native.Mathlib.Omega.{arith}
 use borrow.Author.Needs.{needs}
 use Rattle.session_answers.specs.Answers.{over}
 use Rattle.session_answers.specs.declared.StepAnswer.{StepAnswer}
-use Rattle.replay.specs.Run.{withFrom, ended, movedBy}
+use Rattle.replay.specs.Run.{withFrom, courseEnded, movedBy}
 use Rattle.replay.specs.declared.course.Going.the-variants.{Over}
 use Rattle.replay.specs.declared.course.Course.{Course}
 use Rattle.replay.proofs.run.answered.Statement.{statement}
@@ -17,7 +17,7 @@ same-end : (answer : StepAnswer) (place : ℕ) (course : Course) → movedBy ans
 same-end answer place course = by (over answer)
   where
     -- by whether the run is over
-    by : (test : Bool) → cond test (ended (withFrom course place) Over) (withFrom course place) .to ≡ course .to
+    by : (test : Bool) → cond test (courseEnded (withFrom course place) Over) (withFrom course place) .to ≡ course .to
     by true = refl
     by false = refl
 
