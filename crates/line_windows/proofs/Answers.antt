@@ -29,6 +29,7 @@ module _ {R Q A : Type 0} (memory : Q → ℕ) (search : Rule R Q ℕ) (after : 
   pub answer-from : {answer : A} → run memory (search >>= after) ≡ ok answer → From answer
   answer-from {answer} e = by (run memory search) refl (sym (run-then memory search after) ∙ e)
     where
+      -- the search found an entry, for what refused does not answer
       by : (outcome : Outcome R ℕ) → run memory search ≡ outcome → andThen outcome (λ entry. run memory (after entry)) ≡ ok answer → From answer
       by (ok entry) found e = record { entry = entry; found = found; is = cc (always entry) }
       by (refused refusal) found e = impossible (cc)
@@ -37,6 +38,7 @@ module _ {R Q A : Type 0} (memory : Q → ℕ) (search : Rule R Q ℕ) (after : 
   pub refusal-from : {refusal : R} → run memory (search >>= after) ≡ refused refusal → run memory search ≡ refused refusal
   refusal-from {refusal} e = by (run memory search) refl (sym (run-then memory search after) ∙ e)
     where
+      -- the search refused, for what found an entry answers
       by : (outcome : Outcome R ℕ) → run memory search ≡ outcome → andThen outcome (λ entry. run memory (after entry)) ≡ refused refusal
           → outcome ≡ refused refusal
       by (ok entry) found e = impossible (cc (always entry))
@@ -64,7 +66,7 @@ module _ {R Q : Type 0} (memory : Q → ℕ) (missing : R) (end value : ℕ → 
     entry ← servingEntry missing end count position
     get (value entry)
 
-  -- from an answer, what it tells
+  -- an answer is that of the entry that serves the position
   cell-answered : {answer : ℕ} → run memory cellAt ≡ ok answer → Answered memory cellAt end value count position answer
   cell-answered e =
       let from = answer-from memory (servingEntry missing end count position) _ (λ entry. memory (value entry)) (λ entry. refl) e in
@@ -77,7 +79,7 @@ module _ {R Q : Type 0} (memory : Q → ℕ) (missing : R) (end value : ℕ → 
             ∙ ap (λ (cells : List Q). cells ++ (value (from .entry) ∷ [])) (whole-reads memory missing end count position (from .found));
       }
 
-  -- from a refusal, what it tells
+  -- a refusal means that no entry serves the position
   cell-unanswered : {refusal : R} → run memory cellAt ≡ refused refusal → Unanswered memory cellAt missing end count position refusal
   cell-unanswered e =
       let none = refusal-from memory (servingEntry missing end count position) _ (λ entry. memory (value entry)) (λ entry. refl) e in
@@ -91,50 +93,50 @@ module _ {R Q : Type 0} (memory : Q → ℕ) (missing : R) (end value : ℕ → 
 
 -- ---- line tables
 
-module _ (memory : TableCell → ℕ) (length y : ℕ) where
+module _ (memory : TableCell → ℕ) (tableBytes y : ℕ) where
   -- the frame entry found says where the line table starts
-  pub table-of-entry : {entry : ℕ} → run memory (frameOf length y) ≡ ok entry → run memory (lineTableOf length y) ≡ ok (memory (lineTable entry))
+  pub table-of-entry : {entry : ℕ} → run memory (frameOf tableBytes y) ≡ ok entry → run memory (lineTableOf tableBytes y) ≡ ok (memory (lineTable entry))
   unfolding lineTableOf
-  table-of-entry found = run-ok memory (frameOf length y) _ found
+  table-of-entry found = run-ok memory (frameOf tableBytes y) _ found
 
-  -- where there is none, neither is a line table
-  pub table-of-none : {refusal : Numbered} → run memory (frameOf length y) ≡ refused refusal → run memory (lineTableOf length y) ≡ refused refusal
+  -- where no frame entry serves the line, the line table is refused by the same refusal
+  pub table-of-none : {refusal : Numbered} → run memory (frameOf tableBytes y) ≡ refused refusal → run memory (lineTableOf tableBytes y) ≡ refused refusal
   unfolding lineTableOf
-  table-of-none none = run-refused memory (frameOf length y) _ none
+  table-of-none none = run-refused memory (frameOf tableBytes y) _ none
 
-  -- a line that has a line table has it by the entry reached, and has read the frame entries up to that
-  pub table-answered : {byte : ℕ} → run memory (lineTableOf length y) ≡ ok byte
-      → Answered memory (lineTableOf length y) yend lineTable (frameEntries length) y byte
+  -- a line that has a line table has it by the frame entry that serves it, and has read the ends up to that and where it says
+  pub table-answered : {byte : ℕ} → run memory (lineTableOf tableBytes y) ≡ ok byte
+      → Answered memory (lineTableOf tableBytes y) yend lineTable (frameEntries tableBytes) y byte
   unfolding lineTableOf
-  table-answered e = cell-answered memory (numbered (NoFrameEntry y)) yend lineTable (frameEntries length) y e
+  table-answered e = cell-answered memory (numbered (NoFrameEntry y)) yend lineTable (frameEntries tableBytes) y e
 
-  -- a line that has none reaches no frame entry, and has read them all
-  pub table-unanswered : {refusal : Numbered} → run memory (lineTableOf length y) ≡ refused refusal
-      → Unanswered memory (lineTableOf length y) (numbered (NoFrameEntry y)) yend (frameEntries length) y refusal
+  -- a line that has no line table is served by no frame entry, and has read every end
+  pub table-unanswered : {refusal : Numbered} → run memory (lineTableOf tableBytes y) ≡ refused refusal
+      → Unanswered memory (lineTableOf tableBytes y) (numbered (NoFrameEntry y)) yend (frameEntries tableBytes) y refusal
   unfolding lineTableOf
-  table-unanswered e = cell-unanswered memory (numbered (NoFrameEntry y)) yend lineTable (frameEntries length) y e
+  table-unanswered e = cell-unanswered memory (numbered (NoFrameEntry y)) yend lineTable (frameEntries tableBytes) y e
 
 -- ---- IDs
 
-module _ (memory : TableCell → ℕ) (length start x : ℕ) where
+module _ (memory : TableCell → ℕ) (tableBytes start x : ℕ) where
   -- the line entry found says the ID
-  pub id-of-entry : {entry : ℕ} → run memory (lineEntryOf length start x) ≡ ok entry → run memory (idOf length start x) ≡ ok (memory (idCell start entry))
+  pub id-of-entry : {entry : ℕ} → run memory (lineEntryOf tableBytes start x) ≡ ok entry → run memory (idOf tableBytes start x) ≡ ok (memory (idCell start entry))
   unfolding idOf
-  id-of-entry found = run-ok memory (lineEntryOf length start x) _ found
+  id-of-entry found = run-ok memory (lineEntryOf tableBytes start x) _ found
 
-  -- where there is none, neither is an ID
-  pub id-of-none : {refusal : Numbered} → run memory (lineEntryOf length start x) ≡ refused refusal → run memory (idOf length start x) ≡ refused refusal
+  -- where no line entry serves the pixel, its ID is refused by the same refusal
+  pub id-of-none : {refusal : Numbered} → run memory (lineEntryOf tableBytes start x) ≡ refused refusal → run memory (idOf tableBytes start x) ≡ refused refusal
   unfolding idOf
-  id-of-none none = run-refused memory (lineEntryOf length start x) _ none
+  id-of-none none = run-refused memory (lineEntryOf tableBytes start x) _ none
 
-  -- a pixel that has an ID has it by the entry reached, and has read the line entries up to that
-  pub id-answered : {id : ℕ} → run memory (idOf length start x) ≡ ok id
-      → Answered memory (idOf length start x) (endOf start) (idCell start) (lineEntries length start) x id
+  -- a pixel that has an ID has it by the line entry that serves it, and has read the ends up to that and its ID
+  pub id-answered : {id : ℕ} → run memory (idOf tableBytes start x) ≡ ok id
+      → Answered memory (idOf tableBytes start x) (endOf start) (idCell start) (lineEntries tableBytes start) x id
   unfolding idOf
-  id-answered e = cell-answered memory (numbered (NoLineEntry x)) (endOf start) (idCell start) (lineEntries length start) x e
+  id-answered e = cell-answered memory (numbered (NoLineEntry x)) (endOf start) (idCell start) (lineEntries tableBytes start) x e
 
-  -- a pixel that has none reaches no line entry, and has read them all
-  pub id-unanswered : {refusal : Numbered} → run memory (idOf length start x) ≡ refused refusal
-      → Unanswered memory (idOf length start x) (numbered (NoLineEntry x)) (endOf start) (lineEntries length start) x refusal
+  -- a pixel that has no ID is served by no line entry, and has read every end
+  pub id-unanswered : {refusal : Numbered} → run memory (idOf tableBytes start x) ≡ refused refusal
+      → Unanswered memory (idOf tableBytes start x) (numbered (NoLineEntry x)) (endOf start) (lineEntries tableBytes start) x refusal
   unfolding idOf
-  id-unanswered e = cell-unanswered memory (numbered (NoLineEntry x)) (endOf start) (idCell start) (lineEntries length start) x e
+  id-unanswered e = cell-unanswered memory (numbered (NoLineEntry x)) (endOf start) (idCell start) (lineEntries tableBytes start) x e

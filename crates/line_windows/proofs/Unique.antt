@@ -25,30 +25,32 @@ by-saying-and told answer-of back Exit is More k args answer other exit exit′ 
 
 -- ---- line tables
 
--- the answer that says so
+-- the answer that says this byte or this refusal
 abbrev table-answer : Outcome Numbered ℕ → LineTable
 table-answer (ok byte) = Starts byte
 table-answer (refused refusal) = TableRefused (refusalOf refusal)
 
--- an answer is known by what it says
+-- a line table or its refusal is known by the byte, or by the number and values, that it says
 table-back : (answer : LineTable) → table-answer (frame-spec.lineTableOutcome answer) ≡ answer
 table-back (Starts byte) = refl
 table-back (TableRefused refusal) = ap TableRefused (known refusal)
 
+-- a line has one line table or one refusal
 pub line-table-unique : OneAnswer line-table.Post
 line-table-unique = by-saying-and frame-spec.lineTableOutcome table-answer table-back _ _ _
 
 -- ---- IDs
 
--- the answer that says so
+-- the answer that says what was found or this refusal
 abbrev id-answer : Outcome Numbered FoundId → LookedUp
 id-answer (ok found) = Id found
 id-answer (refused refusal) = IdRefused (refusalOf refusal)
 
--- an answer is known by what it says
+-- what is looked up is known by what was found, or by the number and values of the refusal
 id-back : (answer : LookedUp) → id-answer (ids-spec.lookUpOutcome answer) ≡ answer
 id-back (Id found) = refl
 id-back (IdRefused refusal) = ap IdRefused (known refusal)
 
+-- a pixel has one ID, served up to one last pixel, or one refusal
 pub look-up-unique : OneAnswer look-up.Post
 look-up-unique = by-saying-and ids-spec.lookUpOutcome id-answer id-back _ _ _

@@ -11,8 +11,8 @@ use Rattle.line_windows.specs.declared.ids.LookedUp.the-variants.{Id, Re
 
 -- what the first entry, from entry `from` on, with xend ≥ x serves: its ID, its last pixel, and the entry to go on from after that
 unfoldable pub foundFrom : ℕ → ℕ → ℕ → ℕ → Rule Numbered TableCell FoundId
-foundFrom length start from x = do
-  entry ← lineEntryFrom length start from x
+foundFrom tableBytes start from x = do
+  entry ← lineEntryFrom tableBytes start from x
   last ← get (endOf start entry)
   id ← get (idCell start entry)
   done (record { id = id; last = last; next = entry + 1 })

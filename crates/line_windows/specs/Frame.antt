@@ -11,16 +11,16 @@ use Rattle.line_windows.specs.declared.frame.LineTable.the-variants.{Sta
 
 -- how many frame entries a table of so many bytes has: whole ones, and 2,048 at most
 abbrev pub frameEntries : ℕ → ℕ
-frameEntries length = min 2048 (length / 4)
+frameEntries tableBytes = min 2048 (tableBytes / 4)
 
--- of the frame entries the first that ends at line y or later; none is 7
+-- the frame entry that serves line y: the first that ends there or later; none is 7
 abbrev pub frameOf : ℕ → ℕ → Rule Numbered TableCell ℕ
-frameOf length y = servingEntry (numbered (NoFrameEntry y)) yend (frameEntries length) y
+frameOf tableBytes y = servingEntry (numbered (NoFrameEntry y)) yend (frameEntries tableBytes) y
 
--- where its line table starts
+-- where the line table of line y starts: the frame entry that serves the line says
 unfoldable pub lineTableOf : ℕ → ℕ → Rule Numbered TableCell ℕ
-lineTableOf length y = do
-  entry ← frameOf length y
+lineTableOf tableBytes y = do
+  entry ← frameOf tableBytes y
   get (lineTable entry)
 
 -- what the look-up's answer says: the byte, or a refusal's number and values

@@ -9,34 +9,34 @@ use Rattle.line_windows.specs.Search.{servingFrom, servingEntry}
 
 -- the byte behind the line table that starts at a byte: the 512-byte block that it starts in is over, or the table is
 abbrev pub lineTableEnd : ℕ → ℕ → ℕ
-lineTableEnd length start = min (512 * (start / 512) + 512) length
+lineTableEnd tableBytes start = min (512 * (start / 512) + 512) tableBytes
 
--- how many whole entries it has
+-- how many whole entries a line table has
 abbrev pub lineEntries : ℕ → ℕ → ℕ
-lineEntries length start = (lineTableEnd length start - start) / 2
+lineEntries tableBytes start = (lineTableEnd tableBytes start - start) / 2
 
--- the byte at which an entry of it stands
+-- the byte at which an entry of a line table stands
 abbrev pub entryByte : ℕ → ℕ → ℕ
 entryByte start entry = start + 2 * entry
 
--- the end of an entry of it
+-- the end of an entry of a line table
 abbrev pub endOf : ℕ → ℕ → TableCell
 endOf start entry = xend (entryByte start entry)
 
--- the ID of an entry of it
+-- the ID of an entry of a line table
 abbrev pub idCell : ℕ → ℕ → TableCell
 idCell start entry = windowId (entryByte start entry)
 
--- of the line entries, from one on, the first that ends at pixel x or later; none is 8
+-- the line entry, from entry `from` on, that serves pixel x: the first that ends there or later; none is 8
 abbrev pub lineEntryFrom : ℕ → ℕ → ℕ → ℕ → Rule Numbered TableCell ℕ
-lineEntryFrom length start from x = servingFrom (numbered (NoLineEntry x)) (endOf start) (lineEntries length start) from x
+lineEntryFrom tableBytes start from x = servingFrom (numbered (NoLineEntry x)) (endOf start) (lineEntries tableBytes start) from x
 
--- of all of them the first
+-- the line entry that serves pixel x: of all the first that ends there or later
 abbrev pub lineEntryOf : ℕ → ℕ → ℕ → Rule Numbered TableCell ℕ
-lineEntryOf length start x = servingEntry (numbered (NoLineEntry x)) (endOf start) (lineEntries length start) x
+lineEntryOf tableBytes start x = servingEntry (numbered (NoLineEntry x)) (endOf start) (lineEntries tableBytes start) x
 
--- the ID of pixel x: that of its line entry
+-- the ID of pixel x: the line entry that serves it says
 unfoldable pub idOf : ℕ → ℕ → ℕ → Rule Numbered TableCell ℕ
-idOf length start x = do
-  entry ← lineEntryOf length start x
+idOf tableBytes start x = do
+  entry ← lineEntryOf tableBytes start x
   get (idCell start entry)

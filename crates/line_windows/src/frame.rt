@@ -12,7 +12,9 @@ use refusals::Refusal;
 
 // Where a line's table starts, or the refusal.
 pub enum LineTable {
+    // The byte of the table at which the line table starts.
     Starts(usize),
+    // No frame entry serves the line.
     Refused(Refusal),
 }
 

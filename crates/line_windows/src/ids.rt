@@ -9,16 +9,21 @@ use crate::BLOCK_BYTES;
 use crate::LINE_ENTRY_BYTES;
 use refusals::Refusal;
 
-// What a line entry serves: its ID, the last pixel that it serves, and the entry to go on from after that.
+// What a line entry serves.
 pub struct FoundId {
+    // The ID that it gives its pixels.
     pub id: u32,
+    // The last pixel that it serves.
     pub last: u32,
+    // The entry to go on from after that pixel.
     pub next: usize,
 }
 
 // A pixel's ID with what its entry serves, or the refusal.
 pub enum LookedUp {
+    // The entry that serves the pixel says its ID.
     Id(FoundId),
+    // No line entry serves the pixel.
     Refused(Refusal),
 }
 

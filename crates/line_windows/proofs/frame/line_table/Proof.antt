@@ -1,4 +1,4 @@
--- `line_windows::frame::line_table` meets its contract: its loop is the search for the line's end. Assumes nothing.
+-- `line_windows::frame::line_table` meets its contract: its loop is the search for the frame entry that serves the line. Assumes nothing.
 use Prim.Native.Nat.{ℕ, _+_, _-_, _*_}
 use mathlib.Core.Path.{_≡_, sym, ap}
 use mathlib.Core.List.{List}
@@ -16,9 +16,11 @@ use Rattle.line_windows.proofs.Answers.{table-of-entry, table-of-none}
 use Rattle.line_windows.proofs.frame.line_table.Statement.{statement}
 use Rattle.line_windows.proofs.frame.line_table.Tie as tie
 
+-- each frame entry passed ends before the line
 abbrev Inv-loop : tie.InvT-loop
 Inv-loop table y count entry₀ entry = Searching (tableView table) yend 0 y entry
 
+-- the frame entries that are left
 abbrev μ-loop : tie.MeasureT-loop
 μ-loop table y count entry₀ entry = count - entry
 
@@ -26,11 +28,11 @@ abbrev μ-loop : tie.MeasureT-loop
 abbrev table-at : (c : tie.At-loop Inv-loop μ-loop) → List ℕ
 table-at c = now (c .before .before .before .args .table)
 
--- its line
+-- the line of a call
 abbrev y-at : (c : tie.At-loop Inv-loop μ-loop) → ℕ
 y-at c = c .before .before .before .args .y
 
--- the entry at which its loop is
+-- the entry at which the loop of a call is
 abbrev entry-at : (c : tie.At-loop Inv-loop μ-loop) → ℕ
 entry-at c = c .loop .entry
 
@@ -39,7 +41,7 @@ end-read : (c : tie.After-field Inv-loop μ-loop)
     → let l = c .before .before .before in c .field .result ≡ tableView (table-at l) (yend (entry-at l))
 end-read c = rw (c .field .ensures .0, c .before .be32 .ensures .0)
 
--- the byte made of its fields is where its line table starts
+-- the byte made of an entry's fields is where its line table starts
 start-read : (c : tie.After-field3 Inv-loop μ-loop)
     → let l = c .before .before .before .before .before .before in
     512 * c .before .field2 .result + 2 * c .field3 .result ≡ tableView (table-at l) (lineTable (entry-at l))

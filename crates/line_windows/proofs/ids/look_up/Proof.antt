@@ -1,4 +1,4 @@
--- `line_windows::ids::look_up` meets its contract: its loop is the search for the pixel's end. Assumes nothing.
+-- `line_windows::ids::look_up` meets its contract: its loop is the search for the line entry that serves the pixel. Assumes nothing.
 use Prim.Native.Nat.{ℕ, _+_, _-_}
 use mathlib.Core.Path.{_≡_, sym, ap}
 use mathlib.Core.List.{List}
@@ -16,9 +16,11 @@ use Rattle.line_windows.proofs.Pixels.{servedBy, found-of-entry, found-
 use Rattle.line_windows.proofs.ids.look_up.Statement.{statement}
 use Rattle.line_windows.proofs.ids.look_up.Tie as tie
 
+-- each line entry passed ends before the pixel
 abbrev Inv-loop : tie.InvT-loop
 Inv-loop table start from x count entry₀ entry = Searching (tableView table) (endOf start) from x entry
 
+-- the line entries that are left
 abbrev μ-loop : tie.MeasureT-loop
 μ-loop table start from x count entry₀ entry = count - entry
 
@@ -26,19 +28,19 @@ abbrev μ-loop : tie.MeasureT-loop
 abbrev table-at : (c : tie.At-loop Inv-loop μ-loop) → List ℕ
 table-at c = now (c .before .before .before .args .table)
 
--- where its line table starts
+-- where the line table of a call starts
 abbrev start-at : (c : tie.At-loop Inv-loop μ-loop) → ℕ
 start-at c = c .before .before .before .args .start
 
--- the entry from which it looks
+-- the entry from which a call looks
 abbrev from-at : (c : tie.At-loop Inv-loop μ-loop) → ℕ
 from-at c = c .before .before .before .args .from
 
--- its pixel
+-- the pixel of a call
 abbrev x-at : (c : tie.At-loop Inv-loop μ-loop) → ℕ
 x-at c = c .before .before .before .args .x
 
--- the entry at which its loop is
+-- the entry at which the loop of a call is
 abbrev entry-at : (c : tie.At-loop Inv-loop μ-loop) → ℕ
 entry-at c = c .loop .entry
 
@@ -52,7 +54,7 @@ id-read : (c : tie.After-field2 Inv-loop μ-loop)
     → let l = c .before .before .before .before .before in c .field2 .result ≡ tableView (table-at l) (idCell (start-at l) (entry-at l))
 id-read c = rw (c .field2 .ensures .0, c .before .before .before .be16 .ensures .0)
 
--- what is made of them is what the entry serves
+-- the record made of an entry's ID and end is what it serves
 served-read : (c : tie.After-field2 Inv-loop μ-loop)
     → let f = c .before .before in
     let l = f .before .before .before in
