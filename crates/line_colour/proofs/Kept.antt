@@ -5,7 +5,7 @@ use lib.Dec.{lit≤}
 use Rattle.words.proofs.LowBits.{bits-of-low}
 use Rattle.line_colour.specs.Entry.{decoded}
 
--- bits above bit 12 do not count
+-- an entry says the same without its bits above bit 12
 pub decoded-kept : (entry depth : ℕ) → decoded (entry % 2 ^ 13) depth ≡ decoded entry depth
 unfolding decoded
 decoded-kept entry depth =

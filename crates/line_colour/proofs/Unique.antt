@@ -5,11 +5,14 @@ use Rattle.line_colour.proofs.entry.decode.Reads as decode
 use Rattle.line_colour.proofs.entry.WindowEntry.shown.Reads as shown
 use Rattle.line_colour.proofs.gamma.corrected.Reads as corrected
 
+-- an entry says one thing at a depth, or is undefined
 pub decode-unique : OneAnswer decode.Post
 decode-unique = by-equation _ _
 
+-- a sample shows one map entry or one colour under an entry
 pub shown-unique : OneAnswer shown.Post
 shown-unique = by-equation _ _
 
+-- a colour has one colour through gamma
 pub corrected-unique : OneAnswer corrected.Post
 corrected-unique = by-equation _ _

@@ -11,15 +11,15 @@ use Rattle.line_colour.specs.declared.entry.WindowEntry.{WindowEntry}
 use Rattle.line_colour.specs.declared.entry.Decoded.{Decoded}
 use Rattle.line_colour.specs.declared.entry.Decoded.the-variants.{Defined, Undefined}
 
--- its buffer
+-- the buffer of an entry
 abbrev pub bufferOf : ℕ → ℕ
 bufferOf entry = field entry 0 0
 
--- its format's number
+-- the number of an entry's format
 abbrev pub formatOf : ℕ → ℕ
 formatOf entry = field entry 3 1
 
--- its bank
+-- the bank of an entry
 abbrev pub bankOf : ℕ → ℕ
 bankOf entry = field entry 8 4
 

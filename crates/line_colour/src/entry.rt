@@ -12,24 +12,33 @@ use line_formats::Rgb555;
 use line_formats::Rgb888;
 use words::Rgb;
 
-// What a defined entry says: the format, the lowest bit of the buffer, the bank, and two switches.
+// What a defined entry says.
 pub struct WindowEntry {
+    // The format of its pixels.
     pub format: Format,
+    // The lowest bit of its buffer in a pixel: 0, or half the depth.
     pub low: u32,
+    // The bank of the map that format 0 uses.
     pub bank: u8,
+    // Whether its normal and overlay colours bypass gamma.
     pub bypass: bool,
+    // Whether overlay is allowed over it.
     pub overlay: bool,
 }
 
 // What an entry says, or that it is undefined.
 pub enum Decoded {
+    // Every test is passed: what the entry says.
     Defined(WindowEntry),
+    // A spare bit is set, or the format, depth, buffer or bank isn't listed.
     Undefined,
 }
 
-// What a sample shows: an entry of the colour map, or a colour of its own.
+// What a sample shows.
 pub enum Shown {
+    // The entry of the colour map with this number.
     MapEntry(u32),
+    // A colour of its own.
     Colour(Rgb),
 }
 

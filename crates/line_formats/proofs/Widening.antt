@@ -86,7 +86,7 @@ same-bits (suc count) a b ha hb h =
     let low : a % 2 ≡ b % 2 = simp div-one at (h 0 (omega arith)) in
     omega arith
 
--- the law pins the result
+-- of numbers of 8 bits only the result has bit i mod width of the value as its bit i from the top
 pub widened-is : (value width result : ℕ) → 1 ≤ width → value < 2 ^ width → result < 2 ^ 8
     → ((i : ℕ) → i < 8 → fromTop result 8 i ≡ fromTop value width (i % width)) → result ≡ widened value width
 widened-is value width result some h small law =
@@ -98,6 +98,7 @@ widened-is value width result some h small law =
 abbrev pub twice : ℕ → ℕ → ℕ
 twice x shift = bitOr (x * 2 ^ shift % 2 ^ 64) x
 
+-- n copies doubled by a shift and an or are 2n copies
 twice-repeated : (value width n x shift : ℕ) → value < 2 ^ width → x ≡ repeated value width n → shift ≡ n * width → shift + shift ≤ 64
     → twice x shift ≡ repeated value width (n + n)
 twice-repeated value width n x shift h e d fits =
@@ -116,23 +117,29 @@ by-shifts value width fits h =
     ap (λ (x : ℕ). x / 2 ^ (8 * width - 8))
     (twice-repeated value width 4 (twice (twice value width) (2 * width)) (4 * width) h four refl (omega arith))
 
--- the closed forms of the five widths in use
+-- ---- the closed forms of the five widths in use
+
+-- 2 bits: four times over
 pub widened-2 : (v : ℕ) → v < 2 ^ 2 → widened v 2 ≡ v * 85
 unfolding widened
 widened-2 v h = omega arith
 
+-- 3 bits: twice over, and the two top bits again
 pub widened-3 : (v : ℕ) → v < 2 ^ 3 → widened v 3 ≡ 32 * v + 4 * v + v / 2
 unfolding widened
 widened-3 v h = omega arith
 
+-- 4 bits: twice over
 pub widened-4 : (v : ℕ) → v < 2 ^ 4 → widened v 4 ≡ 17 * v
 unfolding widened
 widened-4 v h = omega arith
 
+-- 5 bits: once, and the three top bits again
 pub widened-5 : (v : ℕ) → v < 2 ^ 5 → widened v 5 ≡ 8 * v + v / 4
 unfolding widened
 widened-5 v h = omega arith
 
+-- 8 bits: as they are
 pub widened-8 : (v : ℕ) → v < 2 ^ 8 → widened v 8 ≡ v
 unfolding widened
 widened-8 v h = omega arith

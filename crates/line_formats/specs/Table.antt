@@ -19,7 +19,7 @@ use Rattle.line_formats.specs.declared.Widths.{Widths}
 abbrev pub formats : List NamedFormat
 formats = Is Index8 ∷ Is Index12 ∷ Is Rgb332 ∷ Is Rgb444 ∷ Is Rgb555 ∷ Is Rgb888 ∷ []
 
--- every other number is undefined
+-- the format that a number names; a number past the last format names none
 abbrev pub formatOfNumber : ℕ → NamedFormat
 formatOfNumber number = getD formats number Undefined
 
@@ -29,6 +29,7 @@ pub record Row : Type 0 where
   pub at16 : Part
   pub at32 : Part
 
+-- a row by its columns
 abbrev row : ℕ → ℕ → ℕ → ℕ → Part → Part → Row
 row used red green blue at16 at32 =
     record { widths = record { bits = used; red = red; green = green; blue = blue }; at16 = at16; at32 = at32 }
@@ -46,7 +47,7 @@ rowOf Rgb888 = row 24 8 8 8 Unlisted Whole
 abbrev pub widthsOf : Format → Widths
 widthsOf format = rowOf format .widths
 
--- at a depth other than 16 or 32 nothing is listed
+-- what of a pixel a format uses at a depth: at one other than 16 or 32 nothing is listed
 unfoldable pub partAt : Format → ℕ → Part
 partAt format depth = cond (eqb depth 16) (rowOf format .at16) (cond (eqb depth 32) (rowOf format .at32) Unlisted)
 

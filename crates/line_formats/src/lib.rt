@@ -131,18 +131,25 @@ impl Rgb888 {
     }
 }
 
-// The bits of a format: of a sample, and of each channel where it has channels.
+// The bits of a format; an index has channels of 0 bits.
 pub struct Widths {
+    // The bits of a sample.
     pub bits: u32,
+    // The bits of its red, from bit 0 up.
     pub red: u32,
+    // The bits of its green, above red.
     pub green: u32,
+    // The bits of its blue, above green.
     pub blue: u32,
 }
 
 // How much of a pixel a format uses at a depth.
 pub enum Part {
+    // Half of it, so that it has two buffers.
     Half,
+    // All of it, as buffer 0.
     Whole,
+    // The table doesn't list the format at the depth.
     Unlisted,
 }
 
@@ -172,17 +179,25 @@ impl Part {
 
 // The formats that the table lists.
 pub enum Format {
+    // 0: an 8-bit index within a bank of the map.
     Index8,
+    // 1: a 12-bit index of the map.
     Index12,
+    // 2: RGB 3-3-2.
     Rgb332,
+    // 3: RGB 4-4-4.
     Rgb444,
+    // 4: RGB 5-5-5.
     Rgb555,
+    // 5: RGB 8-8-8.
     Rgb888,
 }
 
 // What a format's number names.
 pub enum NamedFormat {
+    // One of the six formats.
     Is(Format),
+    // No format: the number is above 5.
     Undefined,
 }
 

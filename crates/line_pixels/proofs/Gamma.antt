@@ -30,18 +30,18 @@ channels-kept word =
     let b : field (bits word 0 24) 7 0 ≡ field word 7 0 = omega arith in
     rw (r, g, b)
 
--- the channels of a gamma word, in the store and in its part
+-- a gamma word has the same channels in the store and in the part of it that is the gamma map
 channels-of-gamma : (store : List ℕ) (i : ℕ) → i < 256
     → channelsOf (getD (gammaWords store) i 0) ≡ channelsOf (stored store (record { block = GammaMap; word = i }))
 channels-of-gamma store i h =
     ap channelsOf (getD-take 256 (drop 4640 store) i 0 h ∙ getD-drop 4640 store i 0) ∙ sym (channels-kept (getD store (4640 + i) 0))
 
--- a colour that skips gamma
+-- a colour that skips gamma is shown as it is
 pub gamma-skipped : (memory : PixelCell → ℕ) (word : ℕ) {skips : Bool} → skips ≡ true → word ≡ value memory (throughGamma skips word)
 unfolding throughGamma
 gamma-skipped memory word e = rw e
 
--- a colour that doesn't
+-- a colour that doesn't skip gamma is corrected by the gamma words of the store
 pub gamma-applied : (store normal overlay : List ℕ) (word : ℕ) {skips : Bool} → skips ≡ false
     → wordOf (corrected (gammaWords store) (channelsOf word)) ≡ value (pixelView store normal overlay) (throughGamma skips word)
 unfolding throughGamma

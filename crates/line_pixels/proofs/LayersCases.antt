@@ -21,18 +21,18 @@ use Rattle.line_pixels.specs.Colour.{cursorSkipsGamma, throughGamma, sho
 use Rattle.line_pixels.specs.declared.Screen.{Screen}
 
 module _ (memory : PixelCell → ℕ) (depth : ℕ) (entry : WindowEntry) (x : ℕ) {word : ℕ} where
-  -- the normal colour by what the sample shows
+  -- the normal colour is the colour of what the sample shows
   normal-of : {shown : Shown} → shownOf entry (memory (sample depth x (entry .low) (widthsOf (entry .format) .bits))) ≡ shown
       → word ≡ value memory (shownColour shown) → word ≡ value memory (normalAt depth entry x)
   unfolding normalAt
   normal-of shows is = is ∙ sym (ap (λ (s : Shown). value memory (shownColour s)) shows)
 
-  -- the sample shows an entry of the map
+  -- where the sample shows an entry of the map, that is the normal colour
   pub normal-of-map : {number : ℕ} → shownOf entry (memory (sample depth x (entry .low) (widthsOf (entry .format) .bits))) ≡ MapEntry number
       → word ≡ memory (mapEntry number) → word ≡ value memory (normalAt depth entry x)
   normal-of-map shows is = normal-of shows is
 
-  -- the sample shows a colour
+  -- where the sample shows a colour of its own, that is the normal colour
   pub normal-of-colour : {colour : Rgb} → shownOf entry (memory (sample depth x (entry .low) (widthsOf (entry .format) .bits))) ≡ Colour colour
       → word ≡ wordOf colour → word ≡ value memory (normalAt depth entry x)
   normal-of-colour shows is = normal-of shows is
@@ -44,35 +44,35 @@ module _ (memory : PixelCell → ℕ) (depth : ℕ) (entry : WindowEntry) (x : �
   plain-of-normal of is = rw (value-then memory (normalAt depth entry x) (throughGamma (entry .bypass)), ← of) is
 
 module _ (memory : PixelCell → ℕ) (screen : Screen) (entry : WindowEntry) (x : ℕ) where
-  -- overlay counts
+  -- where overlay counts, a pixel's overlay byte is that of the row
   pub overlay-byte : overlayCounts screen entry ≡ true → memory (overlayByte x) ≡ value memory (overlayAt screen entry x)
   unfolding overlayAt
   overlay-byte counts = rw counts
 
-  -- overlay doesn't count
+  -- where overlay doesn't count, a pixel's overlay byte is 0
   pub overlay-none : overlayCounts screen entry ≡ false → 0 ≡ value memory (overlayAt screen entry x)
   unfolding overlayAt
   overlay-none not-counts = rw not-counts
 
   module _ {byte word : ℕ} (of : byte ≡ value memory (overlayAt screen entry x)) where
-    -- overlay is transparent
+    -- where the overlay byte is 0, the plain colour shows under the cursor
     pub under-clear : byte ≡ 0 → word ≡ value memory (plainAt (screen .depth) entry x) → word ≡ value memory (underCursor screen entry x)
     unfolding underCursor
     under-clear none is = is ∙ sym (value-then memory (overlayAt screen entry x) _ ∙ rw (← of, eq-eqb byte 0 none))
 
-    -- overlay shows
+    -- where the overlay byte is not 0, its colour through gamma shows under the cursor
     pub under-overlay : (byte ≡ 0 → ⊥) → {mapped : ℕ} → mapped ≡ memory (mapEntry (overlayColours + byte))
         → word ≡ value memory (throughGamma (entry .bypass) mapped) → word ≡ value memory (underCursor screen entry x)
     unfolding underCursor overlaid
     under-overlay some map is = rw map at is ∙ sym (value-then memory (overlayAt screen entry x) _ ∙ rw (← of, ne-eqb byte 0 some))
 
   module _ {number word : ℕ} (of : number ≡ value memory (cursorAt screen x)) where
-    -- no cursor colour shows
+    -- where no cursor colour shows, the pixel has the colour under the cursor
     pub colour-under : number ≡ 0 → word ≡ value memory (underCursor screen entry x) → word ≡ value memory (colourOfPixel screen entry x)
     unfolding colourOfPixel
     colour-under none is = is ∙ sym (value-then memory (cursorAt screen x) _ ∙ rw (← of, eq-eqb number 0 none))
 
-    -- one does
+    -- where a cursor colour shows, the pixel has that colour
     pub colour-of-cursor : (number ≡ 0 → ⊥) → {stored : ℕ} → stored ≡ memory (cursorColour number)
         → word ≡ value memory (throughGamma (cursorSkipsGamma screen entry) stored) → word ≡ value memory (colourOfPixel screen entry x)
     unfolding colourOfPixel cursorShown
@@ -83,7 +83,7 @@ module _ (memory : PixelCell → ℕ) (screen : Screen) (entry : WindowEntry) (x
       → value memory (plainAt (screen .depth) entry x) ≡ value memory (colourOfPixel screen entry x)
   colour-plain none clear = colour-under (sym clear) refl (under-clear (overlay-none none) refl refl)
 
-  -- where it is at each pixel of a run, a run of plain colours is right
+  -- where the colour is the plain one at each pixel of a run, a run of plain colours is the run of colours
   pub run-plain : (count : ℕ) (room : List ℕ) {out : List ℕ}
       → ((p : ℕ) → x ≤ p → p < x + count → value memory (plainAt (screen .depth) entry p) ≡ value memory (colourOfPixel screen entry p))
       → out ≡ filled (λ p. value memory (plainAt (screen .depth) entry p)) x room count → out ≡ filled (λ p. value memory (colourOfPixel screen entry p)) x room count

@@ -12,7 +12,7 @@ use Rattle.line_pixels.specs.Colour.{SaidAt}
 use Rattle.line_pixels.specs.Inner.{PlainLent, PixelsLent}
 use Rattle.line_pixels.specs.declared.Screen.{Screen}
 
--- what an entry says that some window entry says
+-- what some window entry says at a depth fits the depth
 pub said-says : (depth : ℕ) (entry : WindowEntry) → SaidAt depth entry → Says depth entry
 said-says depth entry said = defined-says (said .0) depth (said .1)
 
@@ -21,7 +21,7 @@ module _ (depth x : ℕ) {long : ℕ} where
   pub four-bytes : depth ≡ 32 → (x + 1) * (depth / 8) ≤ long → 4 * x + 4 ≤ long
   four-bytes is h = let h′ : (x + 1) * 4 ≤ long = rw is at h in omega arith
 
-  -- at depth 16 two
+  -- at depth 16 a pixel takes two bytes
   pub two-bytes : depth ≡ 16 → (x + 1) * (depth / 8) ≤ long → 2 * x + 2 ≤ long
   two-bytes is h = let h′ : (x + 1) * 2 ≤ long = rw is at h in omega arith
 

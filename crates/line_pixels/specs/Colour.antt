@@ -57,7 +57,7 @@ normalAt depth entry x = do
   used ← get (sample depth x (entry .low) (widthsOf (entry .format) .bits))
   shownColour (shownOf entry used)
 
--- that colour through gamma
+-- the plain colour of a pixel: the normal one through gamma
 unfoldable pub plainAt : ℕ → WindowEntry → ℕ → Rule ⊥ PixelCell ℕ
 plainAt depth entry x = normalAt depth entry x >>= throughGamma (entry .bypass)
 

@@ -10,7 +10,7 @@ use Rattle.line_pixels.specs.declared.Screen.{Screen}
 abbrev pub within32 : ℕ → ℕ → Bool
 within32 cursor place = leb cursor (place + 31) && leb place cursor
 
--- that distance
+-- the distance of a place from the glyph's first column, or row
 abbrev pub glyphPlace : ℕ → ℕ → ℕ
 glyphPlace cursor place = place + 31 - cursor
 

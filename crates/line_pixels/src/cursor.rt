@@ -14,10 +14,10 @@ use chip_registers::Register;
 // The columns and the rows of the glyph.
 const GLYPH_SIDE: usize = 32;
 
-// The last column and the last row of it.
+// The last column and the last row of the glyph.
 const GLYPH_LAST: usize = 31;
 
-// The cells in a word of it.
+// The cells in a word of the glyph.
 const WORD_CELLS: usize = 16;
 
 // The number in a cell of the glyph.

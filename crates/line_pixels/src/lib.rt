@@ -5,13 +5,20 @@ mod layers;
 mod sampling;
 mod store;
 
-// What the control words say of every pixel of a line: the switches, the depth, where the cursor is, and the line's number.
+// What every pixel of a line goes by: what the control words say, and which line it is.
 pub struct Screen {
+    // Whether overlay is on.
     pub overlay: bool,
+    // Whether the cursor is on.
     pub cursor: bool,
+    // Whether the cursor is a cross-hair, and not the glyph.
     pub crosshair: bool,
+    // The bits of a pixel of the normal row: 16 or 32.
     pub depth: u32,
+    // x of the cursor.
     pub cx: usize,
+    // y of the cursor.
     pub cy: usize,
+    // The line's number.
     pub y: usize,
 }

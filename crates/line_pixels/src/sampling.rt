@@ -5,7 +5,9 @@ use line_colour::entry::WindowEntry;
 
 // An entry with the bits of its samples.
 pub(crate) struct Sampling {
+    // What the window entry says.
     pub entry: WindowEntry,
+    // The bits of a sample in its format.
     pub bits: u32,
 }
 

@@ -53,7 +53,7 @@ mapWord store word = stored store (record { block = ColourMap; word = word })
 abbrev pub DefinedAt : ℕ → ℕ → ℕ → Type 0
 DefinedAt depth word bank = (entry : WindowEntry) × (decoded word depth ≡ Defined entry) × (entry .bank ≡ bank)
 
--- and one, with this bank, is not
+-- a window entry, with this bank, is undefined at a depth
 abbrev pub UndefinedAt : ℕ → ℕ → ℕ → Type 0
 UndefinedAt depth word bank = (decoded word depth ≡ Undefined) × (bankOf word ≡ bank)
 

@@ -5,7 +5,7 @@ use mathlib.Core.List.{List}
 use native.Mathlib.Nat.{add-zero, mul-one, add-suc, add-assoc, mul-assoc, add-mul, pow-suc}
 use Rattle.words.specs.Bytes.{bigEndian}
 
--- the bytes of one number, and then those of another
+-- the number in m + n bytes is that in the first m, moved up by n bytes, plus that in the n behind them
 pub big-endian-add : (bytes : List ℕ) (at m n : ℕ) → bigEndian bytes at (m + n) ≡ bigEndian bytes at m * 256 ^ n + bigEndian bytes (at + m) n
 big-endian-add bytes at m zero = simp (mul-one, add-zero)
 big-endian-add bytes at m (suc n) =

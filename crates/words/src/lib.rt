@@ -52,8 +52,11 @@ pub fn be32(bytes: &[u8], at: usize) -> u32
 
 // A colour of three channels.
 pub struct Rgb {
+    // Red, in bits 23..16 of a word.
     pub red: u8,
+    // Green, in bits 15..8.
     pub green: u8,
+    // Blue, in bits 7..0.
     pub blue: u8,
 }
 

@@ -20,27 +20,32 @@ clear c = sym (c .before .field4 .ensures .0) ∙ c .if1 .left
 number-names : (c : tie.After-from-number) → c .from-number .result ≡ formatOfNumber (field (c .before .before .before .before .before .before .args .entry) 3 1)
 number-names c = c .from-number .ensures ∙ ap formatOfNumber (c .before .before .before .before .field2 .ensures .0)
 
--- from where the format is known: the entry, the depth and the format
+-- the entry of a call whose format is known
 abbrev entry-of : (c : tie.After-format) → ℕ
 entry-of c = c .before .before .before .before .before .before .before .before .args .entry
 
+-- the depth of such a call
 abbrev depth-of : (c : tie.After-format) → ℕ
 depth-of c = c .before .before .before .before .before .before .before .before .args .depth
 
+-- the format of such a call
 abbrev format-of : (c : tie.After-format) → Format
 format-of c = c .format .given .0 .0
 
+-- where the format is known the spare bits are clear
 clear-there : (c : tie.After-format) → field (entry-of c) 12 11 ≡ 0
 clear-there c = clear (c .before .before .before)
 
+-- the entry's number names the format
 named : (c : tie.After-format) → formatOfNumber (field (entry-of c) 3 1) ≡ Is (format-of c)
 named c = sym (number-names (c .before .before)) ∙ c .format .given .1
 
--- what the three last tests say
+-- the test of the depth says whether the format has the depth
 depth-says : (c : tie.After-has-depth)
     → c .has-depth .result ≡ hasDepth (partAt (format-of (c .before .before .before)) (depth-of (c .before .before .before)))
 depth-says c = c .has-depth .ensures ∙ ap hasDepth (c .before .part .ensures)
 
+-- the test of the buffer says whether the format has the buffer
 buffer-says : (c : tie.After-has-buffer)
     → let f = c .before .before .before .before .before in
     c .has-buffer .result ≡ hasBuffer (partAt (format-of f) (depth-of f)) (field (entry-of f) 0 0)
@@ -48,9 +53,11 @@ buffer-says c =
     let f = c .before .before .before .before .before in
     c .has-buffer .ensures ∙ ap₂ hasBuffer (c .before .before .before .part .ensures) (f .before .before .before .before .before .before .before .field .ensures .0)
 
+-- past the test of the depth the format has the depth
 at-depth : (c : tie.Else2) → let f = c .before .before .before .before in true ≡ hasDepth (partAt (format-of f) (depth-of f))
 at-depth c = sym (not-false _ (c .if2 .left)) ∙ depth-says (c .before)
 
+-- the test of the bank says whether the format has the bank
 bank-says : (c : tie.After-has-bank)
     → let f = c .before .before .before .before .before .before .before in
     c .has-bank .result ≡ hasBank (format-of f) (field (entry-of f) 8 4)
@@ -58,6 +65,7 @@ bank-says c =
     let f = c .before .before .before .before .before .before .before in
     c .has-bank .ensures ∙ ap (λ (bank : ℕ). hasBank (format-of f) bank) (f .before .before .before .before .before .field3 .ensures .0)
 
+-- past the test of the buffer the format has the buffer
 in-buffer : (c : tie.Else3)
     → let f = c .before .before .before .before .before .before in true ≡ hasBuffer (partAt (format-of f) (depth-of f)) (field (entry-of f) 0 0)
 in-buffer c = sym (not-false _ (c .if3 .left)) ∙ buffer-says (c .before)

@@ -19,7 +19,7 @@ on c = not-false _ (c .if1 .left)
 in-columns : (c : tie.Else6) → let a = c .before .before .before .before .before .before .before .before .args in (a .x ≤ a .self .cx) × (a .self .cx < a .x + 32)
 in-columns c = c .before .before .before .among .ensures .0 (not-false _ (c .before .before .if5 .left))
 
--- and in its rows
+-- past both tests of the glyph the pixel is in its rows
 in-rows : (c : tie.Else6) → let s = c .before .before .before .before .before .before .before .before .args .self in (s .y ≤ s .cy) × (s .cy < s .y + 32)
 in-rows c = c .before .among2 .ensures .0 (not-false _ (c .if6 .left))
 

@@ -11,10 +11,12 @@ use Rattle.line_pixels.proofs.LayersCases.{run-plain}
 use Rattle.line_pixels.proofs.Screen.fill.Statement.{statement}
 use Rattle.line_pixels.proofs.Screen.fill.Tie as tie
 
+-- the pixels before i are filled with their colours
 abbrev Inv-loop : tie.InvT-loop
 Inv-loop self entry store normal overlay x count out₀ i₀ out i =
     Filling (λ p. value (pixelView store normal overlay) (colourOfPixel self entry p)) x count out₀ out i
 
+-- the pixels that are left
 abbrev μ-loop : tie.MeasureT-loop
 μ-loop self entry store normal overlay x count out₀ i₀ out i = count - i
 

@@ -10,10 +10,11 @@ use Rattle.line_pixels.proofs.LayersCases.{overlay-byte, overlay-none}
 use Rattle.line_pixels.proofs.Screen.overlay_at.Statement.{statement}
 use Rattle.line_pixels.proofs.Screen.overlay_at.Tie as tie
 
--- overlay counts, or it doesn't
+-- where the test passes overlay counts
 counts : (c : tie.Then1) → let a = c .before .before .before .args in overlayCounts (a .self) (a .entry) ≡ true
 counts c = sym (c .before .overlay-counts .ensures) ∙ c .if1 .taken
 
+-- where the test fails overlay doesn't count
 not-counts : (c : tie.Else1) → let a = c .before .before .before .args in overlayCounts (a .self) (a .entry) ≡ false
 not-counts c = sym (c .before .overlay-counts .ensures) ∙ c .if1 .left
 

@@ -12,10 +12,12 @@ use Rattle.line_pixels.proofs.Rows.{plain-before, pixels-le}
 use Rattle.line_pixels.proofs.fill.fill_plain.Statement.{statement}
 use Rattle.line_pixels.proofs.fill.fill_plain.Tie as tie
 
+-- the pixels before i are filled with their plain colours, whatever the overlay row holds
 abbrev Inv-loop : tie.InvT-loop
 Inv-loop depth store normal x count out₀ sampling i₀ out i =
     (overlay : List ℕ) → Filling (λ p. value (pixelView store normal overlay) (plainAt depth (sampling .entry) p)) x count out₀ out i
 
+-- the pixels that are left
 abbrev μ-loop : tie.MeasureT-loop
 μ-loop depth store normal x count out₀ sampling i₀ out i = count - i
 

@@ -53,7 +53,7 @@ of-index8 c =
     ap MapEntry (c .map-entry .ensures)
     ∙ ap (λ (f : Format). shownAs f (start-of bits .args .sampling .entry .bank) (bits .bits .result)) (sym (c .before .enum-told .given .1))
 
--- a 12-bit index shows its own
+-- a 12-bit index shows the entry of its own number
 of-index12 : (c : tie.After-map-entry2)
     → let bits = c .before .before .before in MapEntry (c .map-entry2 .result) ≡ shownOf (start-of bits .args .sampling .entry) (bits .bits .result)
 of-index12 c =
