@@ -9,7 +9,7 @@ use borrow.Author.Tests.{eqb-true, leb-true}
 use lib.Dec.{eqb, leb, lit<}
 use Rattle.rules.proofs.Cases.{impossible}
 use Rattle.words.specs.Field.{field}
-use Rattle.line_formats.specs.Table.{widthsOf, formatOfNumber, rowOf, partAt, hasDepth, hasBuffer, hasBank, valueOf, entryInBank}
+use Rattle.line_formats.specs.Table.{widthsOf, formatOfNumber, formatRow, partAt, hasDepth, hasBuffer, hasBank, valueOf, entryInBank}
 use Rattle.line_formats.specs.declared.Format.{Format}
 use Rattle.line_formats.specs.declared.Format.the-variants.{Index8, Index12, Rgb332, Rgb444, Rgb555, Rgb888}
 use Rattle.line_formats.specs.declared.NamedFormat.{NamedFormat}
@@ -57,7 +57,7 @@ module _ (depth buffer : ℕ) where
 
   -- a depth that is listed by a test for 16 and then one for 32 is one of the two
   depth-by : (format : Format) (is16 is32 : Bool) → eqb depth 16 ≡ is16 → eqb depth 32 ≡ is32
-      → hasDepth (cond is16 (rowOf format .at16) (cond is32 (rowOf format .at32) Unlisted)) ≡ true → (depth ≡ 16) ⊎ (depth ≡ 32)
+      → hasDepth (cond is16 (formatRow format .at16) (cond is32 (formatRow format .at32) Unlisted)) ≡ true → (depth ≡ 16) ⊎ (depth ≡ 32)
   depth-by format true is32 h w e = inl (eqb-true depth 16 h)
   depth-by format false true h w e = inr (eqb-true depth 32 w)
   depth-by format false false h w e = impossible (cc)

@@ -5,7 +5,7 @@ use mathlib.Core.Bool.{cond}
 use mathlib.Core.Logic.{_⊎_, inl, inr, ⊎-elim}
 use borrow.Author.Tests.{le-leb, lt-leb, ne-eqb}
 use lib.Dec.{leb}
-use Rattle.line_formats.specs.Table.{rowOf, widthsOf, partAt}
+use Rattle.line_formats.specs.Table.{formatRow, widthsOf, partAt}
 use Rattle.line_formats.specs.declared.Format.{Format}
 use Rattle.line_formats.specs.declared.Format.the-variants.{Index8, Index12, Rgb332, Rgb444, Rgb555, Rgb888}
 use Rattle.line_formats.specs.declared.Part.{Part}
@@ -16,7 +16,7 @@ abbrev pub fitting : ℕ → ℕ → Part
 fitting bits depth = cond (leb bits (depth / 2)) Half (cond (leb bits depth) Whole Unlisted)
 
 -- a format's row lists at depth 16 and at depth 32 the part that its bits fit
-row-fitting : (format : Format) → (rowOf format .at16 ≡ fitting (widthsOf format .bits) 16) × (rowOf format .at32 ≡ fitting (widthsOf format .bits) 32)
+row-fitting : (format : Format) → (formatRow format .at16 ≡ fitting (widthsOf format .bits) 16) × (formatRow format .at32 ≡ fitting (widthsOf format .bits) 32)
 row-fitting Index8 = (refl, refl)
 row-fitting Index12 = (refl, refl)
 row-fitting Rgb332 = (refl, refl)

@@ -35,21 +35,21 @@ row used red green blue at16 at32 =
     record { widths = record { bits = used; red = red; green = green; blue = blue }; at16 = at16; at32 = at32 }
 
 --                    bits, red green blue, depth 16, depth 32
-abbrev pub rowOf : Format → Row
-rowOf Index8 = row 8 0 0 0 Half Half
-rowOf Index12 = row 12 0 0 0 Whole Half
-rowOf Rgb332 = row 8 3 3 2 Half Half
-rowOf Rgb444 = row 12 4 4 4 Whole Half
-rowOf Rgb555 = row 15 5 5 5 Whole Half
-rowOf Rgb888 = row 24 8 8 8 Unlisted Whole
+abbrev pub formatRow : Format → Row
+formatRow Index8 = row 8 0 0 0 Half Half
+formatRow Index12 = row 12 0 0 0 Whole Half
+formatRow Rgb332 = row 8 3 3 2 Half Half
+formatRow Rgb444 = row 12 4 4 4 Whole Half
+formatRow Rgb555 = row 15 5 5 5 Whole Half
+formatRow Rgb888 = row 24 8 8 8 Unlisted Whole
 
 -- the bits of a format
 abbrev pub widthsOf : Format → Widths
-widthsOf format = rowOf format .widths
+widthsOf format = formatRow format .widths
 
 -- what of a pixel a format uses at a depth: at one other than 16 or 32 nothing is listed
 unfoldable pub partAt : Format → ℕ → Part
-partAt format depth = cond (eqb depth 16) (rowOf format .at16) (cond (eqb depth 32) (rowOf format .at32) Unlisted)
+partAt format depth = cond (eqb depth 16) (formatRow format .at16) (cond (eqb depth 32) (formatRow format .at32) Unlisted)
 
 -- a depth that the table lists
 abbrev pub hasDepth : Part → Bool

@@ -45,7 +45,7 @@ impl Setup {
         ensures { λ r. ⌜ r ≡ tableTooLong self ⌝ }
     {
         if self.controls.ids {
-            return line_windows::LONGEST_TABLE < self.lengths.table;
+            return line_windows::MOST_TABLE_BYTES < self.lengths.table;
         }
         false
     }

@@ -4,7 +4,7 @@ use Rattle.rules.specs.Rule.{Rule, get, _>>=_, Outcome, ok, refused}
 use Rattle.rules.specs.Faults.{Numbered}
 use Rattle.refusals.specs.Refusal.{numbered}
 use Rattle.refusals.specs.declared.Refusal.the-variants.{NoFrameEntry}
-use Rattle.line_windows.specs.Table.{TableCell, yend, lineTable, longestTable}
+use Rattle.line_windows.specs.Table.{TableCell, yend, lineTable, mostTableBytes}
 use Rattle.line_windows.specs.Search.{servingEntry}
 use Rattle.line_windows.specs.declared.frame.LineTable.{LineTable}
 use Rattle.line_windows.specs.declared.frame.LineTable.the-variants.{Starts, Refused}
@@ -30,5 +30,5 @@ lineTableOutcome (Refused refusal) = refused (numbered refusal)
 
 -- a line table starts at one of the bytes that a table can have
 abbrev pub startBelow : LineTable → Type 0
-startBelow (Starts byte) = byte < longestTable
+startBelow (Starts byte) = byte < mostTableBytes
 startBelow (Refused refusal) = Unit {0}

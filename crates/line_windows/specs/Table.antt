@@ -10,8 +10,8 @@ pub data TableCell : Type 0 where
   xend windowId : ℕ → TableCell
 
 -- the most bytes that a table can have
-abbrev pub longestTable : ℕ
-longestTable = 65536
+abbrev pub mostTableBytes : ℕ
+mostTableBytes = 65536
 
 -- a frame entry has 32 bits; the one numbered 0 stands at byte 0
 abbrev pub frameEntry : List ℕ → ℕ → ℕ

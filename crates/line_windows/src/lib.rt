@@ -3,7 +3,7 @@ pub mod frame;
 pub mod ids;
 
 // The most bytes that a table can have.
-pub const LONGEST_TABLE: usize = 65536;
+pub const MOST_TABLE_BYTES: usize = 65536;
 
 // The bytes of a block: a line table ends with the block that it starts in.
 const BLOCK_BYTES: usize = 512;

@@ -50,12 +50,12 @@ abbrev pub mapWord : List ℕ → ℕ → ℕ
 mapWord store word = stored store (record { block = ColourMap; word = word })
 
 -- a window entry, with this bank, is defined at a depth
-abbrev pub DefinedAt : ℕ → ℕ → ℕ → Type 0
-DefinedAt depth word bank = (entry : WindowEntry) × (decoded word depth ≡ Defined entry) × (entry .bank ≡ bank)
+abbrev pub DefinedWithBank : ℕ → ℕ → ℕ → Type 0
+DefinedWithBank depth word bank = (entry : WindowEntry) × (decoded word depth ≡ Defined entry) × (entry .bank ≡ bank)
 
 -- a window entry, with this bank, is undefined at a depth
-abbrev pub UndefinedAt : ℕ → ℕ → ℕ → Type 0
-UndefinedAt depth word bank = (decoded word depth ≡ Undefined) × (bankOf word ≡ bank)
+abbrev pub UndefinedWithBank : ℕ → ℕ → ℕ → Type 0
+UndefinedWithBank depth word bank = (decoded word depth ≡ Undefined) × (bankOf word ≡ bank)
 
 -- the window entry with this buffer, format and bank, and no other bit
 abbrev pub entryWith : ℕ → ℕ → ℕ → ℕ
@@ -111,7 +111,7 @@ examples =
     -- (f) the cursor at (0,0): pixel 0 has the lowest two bits of glyph word 63, pixel 1 has none and nothing is read for it
     ∷ (CornerShows 0 (glyph 31 31 ∷ []) (λ store. glyphWord store 63 % 4) × CornerShows 1 [] (λ store. 0))
     -- (g) 0x110 has bank 17 and is defined, 0x120 has bank 18 and is not
-    ∷ (DefinedAt 16 0x110 17 × DefinedAt 32 0x110 17 × UndefinedAt 16 0x120 18 × UndefinedAt 32 0x120 18)
+    ∷ (DefinedWithBank 16 0x110 17 × DefinedWithBank 32 0x110 17 × UndefinedWithBank 16 0x120 18 × UndefinedWithBank 32 0x120 18)
     -- (h) depth 16, pixel 0x1234, buffer 1, format 0, bank 2: map entry 530
     ∷ ShowsAt 16 (entryWith 1 0 2) 0x1234 (0x12 ∷ 0x34 ∷ []) 530
     -- (i) depth 32, pixel 0xABCD1234, buffer 1, format 1: map entry 3,021

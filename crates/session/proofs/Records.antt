@@ -18,7 +18,7 @@ use Rattle.line.specs.Request.{requestOf}
 use Rattle.line.specs.Drawn.{drawn}
 use Rattle.session.specs.Record.{entryOf, atPosition}
 use Rattle.session.specs.Lent.{Rooms, roomsOf, countsOf, heldIn}
-use Rattle.session.specs.Inner.{withCounts, counted, askedIn, Within, actedIn}
+use Rattle.session.specs.Inner.{withCounts, counted, askedIn, HeldWithin, actedIn}
 use Rattle.session.specs.declared.session.Session.{Session}
 use Rattle.session.proofs.Rooms.{back, back-chip, back-line, back-table, back-normal, back-overlay}
 
@@ -26,7 +26,7 @@ use Rattle.session.proofs.Rooms.{back, back-chip, back-line, back-table
 abbrev Result : Type 0
 Result = (Session × Rooms) × Outcome Numbered Status
 
-module _ (session : Session) (rooms : Rooms) (body : List ℕ) (within : Within session rooms) where
+module _ (session : Session) (rooms : Rooms) (body : List ℕ) (within : HeldWithin session rooms) where
   -- left so, and come to this
   abbrev come-to : Status → Session × Rooms → Result
   come-to status left = (left, ok status)

@@ -8,7 +8,7 @@ use lib.Seq.{paste, length-take-le, take-length}
 use Rattle.chip.specs.Call.{Chip}
 use Rattle.session.specs.Held.{withChip, withTable, withNormal, withOverlay, withLine}
 use Rattle.session.specs.Lent.{Rooms, roomsOf, countsOf, heldIn, laid, leftIn}
-use Rattle.session.specs.Inner.{withState, withCounts, counted, Within}
+use Rattle.session.specs.Inner.{withState, withCounts, counted, HeldWithin}
 use Rattle.session.specs.declared.session.Session.{Session}
 
 -- bytes of a room at its front change nothing
@@ -33,7 +33,7 @@ laid-anew : (room bytes : List ℕ) → laid room bytes ≡ paste room 0 bytes (
 laid-anew room bytes =
     ap₂ (λ (copied : List ℕ) (past : ℕ). copied ++ drop past room) (sym (take-length bytes)) (sym (zero-add (length bytes)))
 
-module _ (session : Session) (rooms : Rooms) (within : Within session rooms) where
+module _ (session : Session) (rooms : Rooms) (within : HeldWithin session rooms) where
   -- the table bytes that are held, put back, leave the room as it was
   table-back : laid (rooms .table) (take (session .counts .table) (rooms .table)) ≡ rooms .table
   table-back = laid-same (rooms .table) (session .counts .table) (within .table-within)

@@ -33,7 +33,7 @@ use Rattle.session.specs.Held.{Held}
 use Rattle.session.specs.Record.{statusBy, contextOf, stepped}
 use Rattle.session.specs.Lent.{Rooms, heldIn, leftIn}
 use Rattle.session.specs.Step.{stepFaults, Left, afterStep, sessionStep}
-use Rattle.session.specs.Inner.{Within, BodyFits, actedIn}
+use Rattle.session.specs.Inner.{HeldWithin, BodyFits, actedIn}
 use Rattle.session.specs.declared.session.Session.{Session}
 use Rattle.session.proofs.Rooms.{table-count, back}
 
@@ -79,7 +79,7 @@ body-part bytes place count is =
     ap₂ (λ (size : ℕ) (rest : List ℕ). take size rest) long (sym (drop-drop 3 place bytes))
 
 -- what is held lies within the rooms
-pub within : {session : Session} {rooms : Rooms} → Fitted session rooms → Within session rooms
+pub within : {session : Session} {rooms : Rooms} → Fitted session rooms → HeldWithin session rooms
 within fit =
     record {
       table-within = rw (fit .table-long) (fit .table-held);
@@ -136,18 +136,18 @@ module _ (session : Session) (rooms : Rooms) (bytes : List ℕ) (place : ℕ) (l
   left-after taken left = ((left .0, place + taken), left .1)
 
   -- what was found by the code's context was found by the session's
-  same-found : Within session rooms → recordAt (contextOf (heldIn session rooms) last) (drop place bytes) ≡ recordAt (judgedBy session rooms last) (drop place bytes)
+  same-found : HeldWithin session rooms → recordAt (contextOf (heldIn session rooms) last) (drop place bytes) ≡ recordAt (judgedBy session rooms last) (drop place bytes)
   same-found inside =
       ap (λ (table : ℕ). recordAt (judgedAt (session .records) table last) (drop place bytes)) (table-count session rooms inside)
 
   -- what comes of what was found
-  stepped-by : (answer : RecordAt) → Within session rooms → recordAt (judgedBy session rooms last) (drop place bytes) ≡ answer
+  stepped-by : (answer : RecordAt) → HeldWithin session rooms → recordAt (judgedBy session rooms last) (drop place bytes) ≡ answer
       → stepped last (heldIn session rooms) (drop place bytes) ≡ statusBy (heldIn session rooms) (drop place bytes) answer
   unfolding stepped
   stepped-by answer inside is = ap (statusBy (heldIn session rooms) (drop place bytes)) (same-found inside ∙ is)
 
   -- nothing is taken and all is as it was
-  nothing-taken : Within session rooms → left-after 0 (leftIn rooms (heldIn session rooms)) ≡ before
+  nothing-taken : HeldWithin session rooms → left-after 0 (leftIn rooms (heldIn session rooms)) ≡ before
   nothing-taken inside =
       ap (left-after 0) (back session rooms inside)
       ∙ ap (λ (next : ℕ). ((session, next), rooms)) (add-zero place)

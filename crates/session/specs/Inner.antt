@@ -36,7 +36,7 @@ abbrev pub askedIn : {A : Type 0} → Session → EntrySays → Chip × Outcome 
 askedIn session entry after = ((counted (withState session (after .0 .0)), after .0 .1), ok (listed (entryOf entry (after .1))))
 
 -- what is held lies within the rooms
-pub record Within (session : Session) (rooms : Rooms) : Type 0 where
+pub record HeldWithin (session : Session) (rooms : Rooms) : Type 0 where
   pub table-within : session .counts .table ≤ length (rooms .table)
   pub normal-within : session .counts .normal ≤ length (rooms .normal)
   pub overlay-within : session .counts .overlay ≤ length (rooms .overlay)

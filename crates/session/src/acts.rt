@@ -16,7 +16,7 @@ ghost use Rattle.line.specs.Request.{requestOf};
 ghost use Rattle.line.specs.Drawn.{drawn};
 ghost use Rattle.session.specs.Record.{entryOf, atPosition};
 ghost use Rattle.session.specs.Lent.{roomsOf};
-ghost use Rattle.session.specs.Inner.{withState, withCounts, listedIn, askedIn, Within, BodyFits, actedIn};
+ghost use Rattle.session.specs.Inner.{withState, withCounts, listedIn, askedIn, HeldWithin, BodyFits, actedIn};
 use crate::keep::keep;
 use crate::session::Session;
 use chip::state::State;
@@ -133,7 +133,7 @@ impl Session {
         output: &mut [u32],
     ) -> Acted
         requires { ⌜ self .records < mostRecords ⌝ }
-        requires { ⌜ Within self (roomsOf (now store) (now table) (now normal) (now overlay) (now output)) ⌝ }
+        requires { ⌜ HeldWithin self (roomsOf (now store) (now table) (now normal) (now overlay) (now output)) ⌝ }
         ensures { λ r. ⌜ ((r .session, now (output .exit)), stepOutcome (r .answer)) ≡ askedIn self (saysLine y (controlsOf (self .state .control) .width)) (drawn (requestOf (self .state) y) (lentOf (now (store .entry)) (take (self .counts .table) (now (table .entry))) (take (self .counts .normal) (now (normal .entry))) (take (self .counts .overlay) (now (overlay .entry)))) (now (output .entry))) ⌝ }
     {
         let state = self.state;
@@ -173,7 +173,7 @@ impl Session {
         output: &mut [u32],
     ) -> Acted
         requires { ⌜ self .records < mostRecords ⌝ }
-        requires { ⌜ Within self (roomsOf (now store) (now table) (now normal) (now overlay) (now output)) ⌝ }
+        requires { ⌜ HeldWithin self (roomsOf (now store) (now table) (now normal) (now overlay) (now output)) ⌝ }
         requires { ⌜ BodyFits self (roomsOf (now store) (now table) (now normal) (now overlay) (now output)) which (now body) ⌝ }
         ensures { λ r. ⌜ ((r .session, roomsOf (now (store .exit)) (now (table .exit)) (now (normal .exit)) (now (overlay .exit)) (now (output .exit))), stepOutcome (r .answer)) ≡ actedIn self (roomsOf (now (store .entry)) (now (table .entry)) (now (normal .entry)) (now (overlay .entry)) (now (output .entry))) which (now (body .entry)) ⌝ }
     {

@@ -20,7 +20,7 @@ use Rattle.session.specs.Record.{stepped}
 use Rattle.session.specs.Listing.{listing}
 use Rattle.session.specs.Lent.{Rooms, heldIn, laid, roomsWith, sessionOf}
 use Rattle.session.specs.Step.{stepFaults, Left, afterStep, sessionStep}
-use Rattle.session.specs.Inner.{Within}
+use Rattle.session.specs.Inner.{HeldWithin}
 use Rattle.session.specs.declared.session.Session.{Session}
 use Rattle.session_files.specs.Steps.{none, Steps}
 use Rattle.session_files.specs.Steps as steps
@@ -33,7 +33,7 @@ use Rattle.session_files.proofs.Sizes.{empty-roomy, stays-roomy}
 -- a session and rooms at which no call is refused: what is held has its sizes and lies within rooms of the right lengths
 pub record Ready (session : Session) (rooms : Rooms) : Type 0 where
   pub roomy : Roomy (heldIn session rooms)
-  pub within : Within session rooms
+  pub within : HeldWithin session rooms
   pub right : RightLengths rooms
 
 -- none of a call's faults is there

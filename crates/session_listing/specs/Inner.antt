@@ -14,12 +14,12 @@ pub record Put (lent : List ℕ) (place : ℕ) (bytes left : List ℕ) (next : �
   pub fits : next ≤ length lent
 
 -- the words, one behind another
-abbrev pub allWords : List ℕ
-allWords = ascii "okatlinerefused"
+abbrev pub listingWords : List ℕ
+listingWords = ascii "okatlinerefused"
 
 -- the first line of some parts
 abbrev pub partsLine : Parts → List ℕ
-partsLine parts = take (parts .letters) (drop (parts .from) allWords) ++ spaced (take (parts .numbers) (parts .first ∷ parts .second ∷ []))
+partsLine parts = take (parts .letters) (drop (parts .from) listingWords) ++ spaced (take (parts .numbers) (parts .first ∷ parts .second ∷ []))
 
 -- the first line, and each of some colours on a line of its own
 abbrev pub partsText : Parts → List ℕ → List ℕ

@@ -3,7 +3,7 @@ ghost use Prim.Native.Nat.{_<_, min};
 ghost use mathlib.Core.Path.{_≡_};
 ghost use lib.ListN.{getD};
 ghost use Rattle.session_listing.specs.Text.{entrySays};
-ghost use Rattle.session_listing.specs.Inner.{allWords, PartsOf};
+ghost use Rattle.session_listing.specs.Inner.{listingWords, PartsOf};
 use crate::entry::ListingEntry;
 
 // A first line: its word, and the numbers behind it. And how many pixels follow.
@@ -25,7 +25,7 @@ pub(crate) struct Parts {
 // A letter of the words, which stand one behind another.
 pub(crate) fn letter(place: usize) -> u8
     requires { ⌜ place < 15 ⌝ }
-    ensures { λ r. ⌜ r ≡ getD allWords place 0 ⌝ }
+    ensures { λ r. ⌜ r ≡ getD listingWords place 0 ⌝ }
 {
     let words = b"okatlinerefused";
     words[place]

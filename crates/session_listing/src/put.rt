@@ -5,7 +5,7 @@ ghost use mathlib.Core.List.{[], _∷_};
 ghost use lib.ListN.{length, take, drop};
 ghost use Rattle.session_listing.specs.Digits.{digit, decimal, hex};
 ghost use Rattle.session_listing.specs.Text.{ended, spaced, pixels};
-ghost use Rattle.session_listing.specs.Inner.{Put, allWords, partsLine};
+ghost use Rattle.session_listing.specs.Inner.{Put, listingWords, partsLine};
 use crate::parts::Parts;
 use crate::parts::letter;
 
@@ -46,7 +46,7 @@ fn put_spaced(lent: &mut [u8], at: usize, number: u32) -> usize
 // Some letters of the words.
 fn put_word(lent: &mut [u8], at: usize, from: usize, letters: usize) -> usize
     requires { ⌜ (from + letters ≤ 15) × (at + letters ≤ length (now lent)) ⌝ }
-    ensures { λ r. ⌜ Put (now (lent .entry)) at (take letters (drop from allWords)) (now (lent .exit)) r × (r ≡ at + letters) ⌝ }
+    ensures { λ r. ⌜ Put (now (lent .entry)) at (take letters (drop from listingWords)) (now (lent .exit)) r × (r ≡ at + letters) ⌝ }
 {
     let mut i = 0;
     while i < letters {

@@ -2,7 +2,7 @@
 use native.Mathlib.Omega.{arith}
 use borrow.Author.Needs.{needs}
 use lib.ListN.{take, drop}
-use Rattle.session_listing.specs.Inner.{allWords}
+use Rattle.session_listing.specs.Inner.{listingWords}
 use Rattle.session_listing.proofs.Puts.{put-as, put-then}
 use Rattle.session_listing.proofs.FirstLine.{no-number, one-number, two-numbers}
 use Rattle.session_listing.proofs.put.put_parts.Statement.{statement}
@@ -18,7 +18,7 @@ returns : tie.Need-returns
 returns c =
     let word = c .before .before .before .before in
     let parts = word .before .before .before .args .parts in
-    (put-as (word .put-word .ensures .0) (no-number (take (parts .letters) (drop (parts .from) allWords)) (parts .first) (parts .second) (c .if1 .taken)), omega arith)
+    (put-as (word .put-word .ensures .0) (no-number (take (parts .letters) (drop (parts .from) listingWords)) (parts .first) (parts .second) (c .if1 .taken)), omega arith)
 
 put-spaced-requires : tie.Need-put-spaced-requires
 put-spaced-requires c κs = omega arith
@@ -31,7 +31,7 @@ returns-2 c =
     let next = c .before .before .before .before in
     let word = next .before .before .before .before .before .before in
     let parts = word .before .before .before .args .parts in
-    (put-as (put-then (word .put-word .ensures .0) (next .put-spaced .ensures .0)) (one-number (take (parts .letters) (drop (parts .from) allWords)) (parts .first) (parts .second) (c .if2 .taken)), omega arith)
+    (put-as (put-then (word .put-word .ensures .0) (next .put-spaced .ensures .0)) (one-number (take (parts .letters) (drop (parts .from) listingWords)) (parts .first) (parts .second) (c .if2 .taken)), omega arith)
 
 put-spaced-requires-2 : tie.Need-put-spaced-requires-2
 put-spaced-requires-2 c κs = omega arith
@@ -46,7 +46,7 @@ returns-3 c =
     let word = next .before .before .before .before .before .before in
     let parts = word .before .before .before .args .parts in (
       put-as (put-then (put-then (word .put-word .ensures .0) (next .put-spaced .ensures .0)) (last .put-spaced2 .ensures .0))
-          (two-numbers (take (parts .letters) (drop (parts .from) allWords)) (parts .first) (parts .second) (parts .numbers) (next .before .before .if1 .left) (last .before .before .if2 .left)),
+          (two-numbers (take (parts .letters) (drop (parts .from) listingWords)) (parts .first) (parts .second) (parts .numbers) (next .before .before .if1 .left) (last .before .before .if2 .left)),
       omega arith,
     )
 

@@ -5,14 +5,14 @@ use native.Mathlib.Numerals.{add-one}
 use native.Mathlib.Omega.{arith}
 use lib.ListN.{drop, getD, length-drop}
 use lib.Seq.{take-suc, getD-drop}
-use Rattle.session_listing.specs.Inner.{allWords}
+use Rattle.session_listing.specs.Inner.{listingWords}
 use Rattle.session_listing.proofs.Puts.{put-one, Putting, putting-start, putting-next, putting-over}
 use Rattle.session_listing.proofs.put.put_word.Statement.{statement}
 use Rattle.session_listing.proofs.put.put_word.Tie as tie
 
 -- before each turn the first so many letters are put
 abbrev Inv-loop : tie.InvT-loop
-Inv-loop lent₀ at from letters i₀ lent i = Putting (λ bytes. bytes) 1 lent₀ at (drop from allWords) letters lent (at + i) i
+Inv-loop lent₀ at from letters i₀ lent i = Putting (λ bytes. bytes) 1 lent₀ at (drop from listingWords) letters lent (at + i) i
 
 -- how many are left
 abbrev μ-loop : tie.MeasureT-loop
@@ -43,8 +43,8 @@ loop-again : tie.Need-loop-again Inv-loop μ-loop
 loop-again c =
     let l = c .before .before in
     let given = l .before .before .args in
-    let word = drop (given .from) allWords in
-    rw (c .letter .ensures ∙ sym (getD-drop (given .from) allWords (l .loop .i) 0))
+    let word = drop (given .from) listingWords in
+    rw (c .letter .ensures ∙ sym (getD-drop (given .from) listingWords (l .loop .i) 0))
     (putting-next (l .loop .inv) (omega arith)
     (put-one (l .loop .lent) (given .at + l .loop .i) (getD word (l .loop .i) 0) (omega arith) (omega arith)) refl
     (rw (add-one (l .loop .i), take-suc word (l .loop .i) 0 (omega (arith, l .loop .inv .enough)))))
