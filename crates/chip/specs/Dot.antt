@@ -19,7 +19,7 @@ use Rattle.chip.specs.declared.report.Report.the-variants.{Last}
 abbrev pub signalsOf : State → Signals
 signalsOf state = signalsAt (windowsOf state) (state .at)
 
--- the dot is blanked and something waits
+-- whether a dot applies a write: it is blanked and something waits
 unfoldable pub drains : State → Bool
 drains state = signalsOf state .blank && ltb 0 (state .queue .waiting)
 
@@ -29,7 +29,7 @@ oldestApplied chip =
     let write = oldest (chip .0 .queue) in
     (withQueue (chip .0) (popped (chip .0 .queue)), set (chip .1) (target write) (write .value))
 
--- so at a dot that is blanked where something waits
+-- the oldest write is applied at a dot that is blanked where something waits; any other dot applies nothing
 abbrev pub drained : Chip → Chip
 drained chip = cond (drains (chip .0)) (oldestApplied chip) chip
 

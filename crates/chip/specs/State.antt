@@ -51,7 +51,7 @@ withQueue state queue = record { control = state .control; at = state .at; queue
 -- none of the control words, of which the first has this number, has stray bits
 abbrev pub goodWords : ℕ → List ℕ → Bool
 goodWords word [] = true
-goodWords word (value ∷ values) = fits (record { block = Control; word = word }) value && goodWords (suc word) values
+goodWords word (value ∷ others) = fits (record { block = Control; word = word }) value && goodWords (suc word) others
 
 -- the rule of number 11: no stray control bits, a position of at most 4,095, at most 64 waiting, each to a colour entry and of at most 24 bits
 unfoldable pub goodState : State → Bool

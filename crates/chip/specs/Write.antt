@@ -23,18 +23,18 @@ use Rattle.chip.specs.Call.{Chip, callFaults}
 
 -- why a write is refused, by what its address names and whether the queue is full: 1 where it names nothing, else 2, 3, 4, all at the address
 abbrev pub registerFaults : Bool → Named → ℕ → ℕ → List Fault
-registerFaults full Nothing place value = fault (NoRegister place) true ∷ []
-registerFaults full (Is register) place value =
+registerFaults noRoom Nothing place value = fault (NoRegister place) true ∷ []
+registerFaults noRoom (Is register) place value =
     fault (ReadOnly place) (readOnly register)
     ∷ fault (StrayBits place) (not (fits register value))
-    ∷ fault (QueueFull place) (waits register && full)
+    ∷ fault (QueueFull place) (waits register && noRoom)
     ∷ []
 
--- so of an address
+-- why a write to an address is refused, by whether the queue is full
 abbrev pub addressFaults : Bool → ℕ → ℕ → List Fault
-addressFaults full address value = registerFaults full (named address) (addressPlace address) value
+addressFaults noRoom address value = registerFaults noRoom (named address) (addressPlace address) value
 
--- 11, 5, 1, 2, 3, 4
+-- the faults of a write, in order: 11, 5, 1, 2, 3, 4
 abbrev pub writeFaults : Chip → ℕ → ℕ → List Fault
 writeFaults chip address value = callFaults (chip .0) (length (chip .1)) ++ addressFaults (full (chip .0 .queue)) address value
 
@@ -49,7 +49,7 @@ put chip register value =
     cond (waits register) (withQueue (chip .0) (pushed (chip .0 .queue) (writeTo register value)), chip .1)
     (putAt chip register value (storePlace register))
 
--- where an address names nothing, nowhere
+-- a write to what an address names: where it names nothing, all stays as it was
 abbrev pub putNamed : Chip → Named → ℕ → Chip
 putNamed chip Nothing value = chip
 putNamed chip (Is register) value = put chip register value

@@ -11,12 +11,17 @@ use Rattle.chip.specs.Read.{readFaults, readBack}
 use Rattle.chip.specs.Dot.{dotted}
 use Rattle.chip.specs.Dots.{ran}
 
--- a register write, a register read, a dot, a run of dots, or a line, which changes neither state nor store
+-- a call on the chip
 pub data Call : Type 0 where
+  -- a register write, of an address and a value
   write : ℕ → ℕ → Call
+  -- a register read, of an address
   read : ℕ → Call
+  -- one dot
   dot : Call
+  -- a run of so many dots
   dots : ℕ → Call
+  -- a line, which changes neither state nor store
   line : Call
 
 -- what a call leaves, refused or not

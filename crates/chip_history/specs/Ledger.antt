@@ -28,9 +28,9 @@ abbrev pub colourWrite : Named → ℕ → List Waiting
 colourWrite Nothing value = []
 colourWrite (Is register) value = cond (waits register) (writeTo register value ∷ []) []
 
--- where the write was done, its colour write
+-- the colour write of a write that was done; none of one that was refused
 abbrev pub acceptedBy : Outcome Numbered (Unit {0}) → List Waiting → List Waiting
-acceptedBy (ok done) writes = writes
+acceptedBy (ok answer) writes = writes
 acceptedBy (refused refusal) writes = []
 
 -- the colour write that a call accepts, if any
