@@ -20,44 +20,44 @@ use Rattle.c_chip.specs.declared.calls.ReadBackNumbers.{ReadBackNumbers}
 use Rattle.c_chip.specs.declared.calls.DottedNumbers.{DottedNumbers}
 use Rattle.c_chip.specs.declared.calls.DrawnNumbers.{DrawnNumbers}
 
--- a write
+-- a write's answer in numbers: the state after it, and why it was refused
 abbrev pub writeAnswer : State → Outcome Numbered (Unit {0}) → WrittenNumbers
 writeAnswer state answer = record { state = state; refusal = refusalOf answer }
 
--- what it answers, and the words of the store after it
+-- what a write answers, and the words of the store after it
 unfoldable pub writtenInNumbers : Chip → ℕ → ℕ → WrittenNumbers × List ℕ
 writtenInNumbers chip address value =
     let all = written chip address value in
     (writeAnswer (all .0 .0) (all .1), all .0 .1)
 
--- a read
+-- a read's answer in numbers: the state, why it was refused, and the word
 abbrev pub readAnswer : State → Outcome Numbered ℕ → ReadBackNumbers
 readAnswer state answer = record { state = state; refusal = refusalOf answer; word = wordRead answer }
 
--- what it answers; it changes no word of the store
+-- what a read answers; it changes no word of the store
 unfoldable pub readInNumbers : Chip → ℕ → ReadBackNumbers
 readInNumbers chip address = let all = readBack chip address in readAnswer (all .0 .0) (all .1)
 
--- dots, one or many
+-- the answer of dots in numbers, one or many: the state after them, why they were refused, and the signals of the last
 abbrev pub dotsAnswer : State → Outcome Numbered Report → DottedNumbers
 dotsAnswer state answer = record { state = state; refusal = refusalOf answer; signals = inNumbers (reportOfDots answer) }
 
--- what they answer, and the words of the store after them
+-- what dots answer, one or many, and the words of the store after them
 abbrev pub dotsInNumbers : Chip × Outcome Numbered Report → DottedNumbers × List ℕ
 dotsInNumbers all = (dotsAnswer (all .0 .0) (all .1), all .0 .1)
 
--- a dot
+-- what a dot answers, and the words of the store after it
 unfoldable pub dottedInNumbers : Chip → DottedNumbers × List ℕ
 dottedInNumbers chip = dotsInNumbers (dotted chip)
 
--- a run of dots
+-- what a run of dots answers, and the words of the store after it
 unfoldable pub ranInNumbers : Chip → ℕ → DottedNumbers × List ℕ
 ranInNumbers chip count = dotsInNumbers (ran chip count)
 
--- a line
+-- a line's answer in numbers: the state, and why it was refused
 abbrev pub lineAnswer : State → Outcome Numbered (Unit {0}) → DrawnNumbers
 lineAnswer state answer = record { state = state; refusal = refusalOf answer }
 
--- what it answers, and the words of the output after it
+-- what a line answers, and the words of the output after it
 unfoldable pub drawnInNumbers : Request → Lent → List ℕ → DrawnNumbers × List ℕ
 drawnInNumbers request lent output = let all = drawn request lent output in (lineAnswer (all .0 .0) (all .1), all .0 .1)

@@ -18,30 +18,40 @@ use line::request::Request;
 // What a write answers.
 #[repr(C)]
 pub struct WrittenNumbers {
+    // the state after the write
     pub state: State,
+    // why it was refused, or 0 and 0
     pub refusal: Refused,
 }
 
 // What a read answers: the word that the register shows, or 0.
 #[repr(C)]
 pub struct ReadBackNumbers {
+    // the state, as it was
     pub state: State,
+    // why it was refused, or 0 and 0
     pub refusal: Refused,
+    // the word that the register shows; 0 where the read is refused
     pub word: u32,
 }
 
 // What dots answer, one or many.
 #[repr(C)]
 pub struct DottedNumbers {
+    // the state after the last dot
     pub state: State,
+    // why they were refused, or 0 and 0
     pub refusal: Refused,
+    // what the last dot reported
     pub signals: Reported,
 }
 
 // What a line answers.
 #[repr(C)]
 pub struct DrawnNumbers {
+    // the state, as it was
     pub state: State,
+    // why it was refused, or 0 and 0
     pub refusal: Refused,
 }
 

@@ -15,13 +15,17 @@ use refusals::Answer;
 // Whether a dot was made, and the signals of the last one, each 1 or 0.
 #[repr(C)]
 pub struct Reported {
+    // 1 where a dot was made, else 0 and so are the others
     pub reported: u32,
+    // 1 where horizontal sync holds
     pub hsync: u32,
+    // 1 where vertical sync holds
     pub vsync: u32,
+    // 1 where the dot is blanked
     pub blank: u32,
 }
 
-// Of a write or a line.
+// Why a write or a line was refused, or 0 and 0.
 pub(crate) fn of_answer(answer: Answer) -> Refused
     ensures { λ r. ⌜ r ≡ refusalOf (answerOutcome answer) ⌝ }
 {
@@ -31,7 +35,7 @@ pub(crate) fn of_answer(answer: Answer) -> Refused
     }
 }
 
-// Of a read.
+// Why a read was refused, or 0 and 0.
 pub(crate) fn of_read(answer: chip::read::ReadAnswer) -> Refused
     ensures { λ r. ⌜ r ≡ refusalOf (readOutcome answer) ⌝ }
 {
@@ -41,7 +45,7 @@ pub(crate) fn of_read(answer: chip::read::ReadAnswer) -> Refused
     }
 }
 
-// Of dots, one or many.
+// Why dots were refused, one or many, or 0 and 0.
 pub(crate) fn of_dots(answer: chip::report::DotsAnswer) -> Refused
     ensures { λ r. ⌜ r ≡ refusalOf (dotsOutcome answer) ⌝ }
 {

@@ -5,16 +5,16 @@ use Rattle.rules.specs.Rule.{Outcome, ok, refused}
 use Rattle.rules.specs.Faults.{Numbered, placeIn}
 use Rattle.c_numbers.specs.declared.Refused.{Refused}
 
--- yes and no
+-- yes is 1, no is 0
 abbrev pub yesNo : Bool → ℕ
 yesNo true = 1
 yesNo false = 0
 
--- nothing is refused
+-- where nothing is refused, 0 and 0
 abbrev pub nothing : Refused
 nothing = record { number = 0; place = 0 }
 
--- a refusal
+-- a refusal as its number and its place
 abbrev pub refusedBy : Numbered → Refused
 refusedBy refusal = record { number = refusal .number; place = placeIn refusal }
 

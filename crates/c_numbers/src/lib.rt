@@ -7,7 +7,9 @@ use refusals::Refusal;
 // A refusal's number and place; both 0 where there is none.
 #[repr(C)]
 pub struct Refused {
+    // the paper's number of it: 1 to 14
     pub number: u32,
+    // where it is, by the number: an address, a line, a pixel, which length, a record, or 0
     pub place: u32,
 }
 

@@ -4,8 +4,10 @@ use Rattle.rules.proofs.Unique.{by-equation}
 use Rattle.c_questions.proofs.bulitampaw_entry_defined.Reads as entry-defined
 use Rattle.c_questions.proofs.bulitampaw_signal_holds.Reads as signal-holds
 
+-- one answer says whether a window entry is defined
 pub entry-defined-unique : OneAnswer entry-defined.Post
 entry-defined-unique = by-equation _ _
 
+-- one answer says whether a signal holds
 pub signal-holds-unique : OneAnswer signal-holds.Post
 signal-holds-unique = by-equation _ _

@@ -24,11 +24,11 @@ abbrev pub GoesOn : Chip → Type 0
 GoesOn chip = tested chip ≡ ok tt
 
 module _ (state : State) (size : ℕ) where
-  -- then the state keeps its rule, and the store has its length
+  -- a call that may go on has a state that keeps its rule and a store of the right length
   pub allowed-says : verdict (callFaults state size) ≡ ok tt → (goodState state ≡ true) × (size ≡ storeLength)
   allowed-says e = let clear = clear-verdict (callFaults state size) e in (not-false _ (clear .0), eqb-true _ _ (not-false _ (clear .1 .0)))
 
-  -- and that is all that it asks
+  -- with a state that keeps its rule and a store of the right length a call may go on
   pub says-allowed : goodState state ≡ true → size ≡ storeLength → verdict (callFaults state size) ≡ ok tt
   says-allowed good right = verdict-clear (callFaults state size) (ap not good, (ap not (eq-eqb size storeLength right), tt))
 
@@ -37,6 +37,7 @@ pub first-then : (faults others : List Fault) → verdict (faults ++ others) ≡
 first-then [] others = refl
 first-then (fault ∷ faults) others = by (fault .holds) (first-then faults others)
   where
+    -- by whether the first fault holds, else by those behind it
     by : (test : Bool) → verdict (faults ++ others) ≡ andThen (verdict faults) (λ passed. verdict others)
         → cond test (refused (fault .refusal)) (verdict (faults ++ others)) ≡ andThen (cond test (refused (fault .refusal)) (verdict faults)) (λ passed. verdict others)
     by true rest = refl
@@ -47,6 +48,6 @@ module _ {Memory Answer : Type 0} (before : Memory) (done : Memory × Answer) (f
   pub passes : verdict faults ≡ ok tt → unless faults before done ≡ (done .0, ok (done .1))
   passes e = none-holds before done faults (clear-verdict faults e)
 
-  -- any other is refused by the first that does, and leaves all as it was
+  -- a call of which a fault holds is refused by the first that does, and leaves all as it was
   pub stops : (refusal : Numbered) → verdict faults ≡ refused refusal → unless faults before done ≡ (before, refused refusal)
   stops refusal e = first-holds before done faults refusal (first-verdict faults refusal e)

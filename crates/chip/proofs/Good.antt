@@ -36,7 +36,7 @@ chosen Holds false h k = k
 
 -- ---- what the rule says
 
--- no stray control bits, a position of at most 4,095 either way, and a good queue
+-- a state that keeps the rule has no stray control bits, a position of at most 4,095 either way, and a good queue
 pub good-says : (state : State) → goodState state ≡ true
     → (goodWords 0 (state .control) ≡ true) × (state .at .x ≤ 4095) × (state .at .y ≤ 4095) × (goodQueue (state .queue) ≡ true)
 unfolding goodState
@@ -46,7 +46,7 @@ good-says state good =
     let two = both _ _ (three .0) in
     (two .0, leb-true _ _ (two .1), leb-true _ _ (three .1), all .1)
 
--- and that is all that it says
+-- a state with no stray control bits, a position of at most 4,095 either way and a good queue keeps the rule
 pub says-good : (state : State) → goodWords 0 (state .control) ≡ true → state .at .x ≤ 4095 → state .at .y ≤ 4095 → goodQueue (state .queue) ≡ true
     → goodState state ≡ true
 unfolding goodState
@@ -82,7 +82,7 @@ pub not-full : (queue : Queue) → full queue ≡ false → queue .waiting < 64
 unfolding full
 not-full queue h = leb-false 64 (queue .waiting) h
 
--- a word of a block
+-- the register that is a word of a block
 abbrev word-of : Block → ℕ → Register
 word-of block word = record { block = block; word = word }
 

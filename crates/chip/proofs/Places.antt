@@ -21,7 +21,7 @@ module _ (chip : Chip) (register : Register) where
       ap (showsAt chip register) (stored-place register here) ∙ sym (ap (storedAt (chip .1) register) (stored-place register here))
 
   module _ (value : ℕ) where
-    -- a write by whether it waits
+    -- a write joins the queue if it waits, else it goes to its register's place
     put-by : {waiting : Bool} → waits register ≡ waiting
         → put chip register value
         ≡ cond waiting (withQueue (chip .0) (pushed (chip .0 .queue) (writeTo register value)), chip .1) (putAt chip register value (storePlace register))
@@ -33,6 +33,6 @@ module _ (chip : Chip) (register : Register) where
     pub put-waits : waits register ≡ true → put chip register value ≡ (withQueue (chip .0) (pushed (chip .0 .queue) (writeTo register value)), chip .1)
     put-waits waiting = put-by waiting
 
-    -- any other goes to its register's place
+    -- a write that does not wait goes to its register's place
     pub put-placed : waits register ≡ false → {place : StorePlace} → storePlace register ≡ place → put chip register value ≡ putAt chip register value place
     put-placed at-once is = put-by at-once ∙ ap (putAt chip register value) is

@@ -21,18 +21,18 @@ module _ (chip : Chip) (address : ℕ) where
       → verdict (readFaults chip address) ≡ andThen first (λ passed. verdict (nameFaults what (addressPlace address)))
   read-test e names = rw (sym e, sym names) (first-then (callFaults (chip .0) (length (chip .1))) (nameFaults (named address) (addressPlace address)))
 
-  -- 11 and 5
+  -- a read whose state is bad or whose store has another length is refused by 11 or 5
   pub read-unfit : (refusal : Numbered) → tested chip ≡ refused refusal → readBack chip address ≡ (chip, refused refusal)
   unfolding readBack
   read-unfit refusal e = stops chip _ (readFaults chip address) refusal (read-test e refl)
 
   module _ (fine : GoesOn chip) where
-    -- 1
+    -- a read of an address that names nothing is refused by 1, at the address
     pub read-nowhere : named address ≡ Nothing → readBack chip address ≡ (chip, refused (numbered (NoRegister (addressPlace address))))
     unfolding readBack
     read-nowhere e = stops chip _ (readFaults chip address) _ (read-test fine e)
 
-    -- none of them
+    -- any other read answers what the register shows
     pub read-shown : (register : Register) → named address ≡ Is register → readBack chip address ≡ (chip, ok (registerShows chip register))
     unfolding readBack
     read-shown register e = passes chip _ (readFaults chip address) (read-test fine e) ∙ ap (λ (what : Named). (chip, ok (addressShows chip what))) e

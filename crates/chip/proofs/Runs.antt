@@ -44,6 +44,7 @@ module _ (state : State) (store : List ℕ) where
   unfolding drains
   none-waits none = rw (le-ltb 0 (state .queue .waiting) (omega arith)) (and-false (signalsOf state .blank))
     where
+      -- where one of two tests is false, they do not hold together
       and-false : (test : Bool) → (test && false) ≡ false
       and-false true = refl
       and-false false = refl
@@ -71,7 +72,7 @@ dots-none-wait zero state store none = refl
 dots-none-wait (suc count) state store none =
     ap (afterDots count) (idle-dot state store (none-waits state store none)) ∙ dots-none-wait count (moved state) store none
 
--- up to the next blanked dot they do the same, whatever waits
+-- up to the next blanked dot, dots move the position and change nothing else, whatever waits
 pub dots-walk : (count : ℕ) (state : State) (store : List ℕ)
     → let walk = walked (windowsOf state) (state .at) (controlWord state 1) count in
     afterDots count (state, store) ≡ afterDots (walk .left) (withPosition state (walk .at), store)
@@ -94,11 +95,12 @@ Onward state count walk =
 abbrev to-blank : State → ℕ → Walk
 to-blank state count = walked (windowsOf state) (state .at) (controlWord state 1) count
 
--- so does the walk of the code
+-- the walk of the code passes over dots that only move
 pub onward : (state : State) (count : ℕ) → goodState state ≡ true → Onward state count (walk state count)
 unfolding walk afterDots
 onward state count good = by (eqb (state .queue .waiting) 0) refl
   where
+    -- by whether nothing waits: all dots only move, or those up to the next blanked one
     by : (none : Bool) → eqb (state .queue .waiting) 0 ≡ none
         → Onward state count (cond none (record { at = positionAfter (state .at) count (controlWord state 1); left = 0 }) (to-blank state count))
     by true none =
@@ -114,6 +116,7 @@ pub walk-blanked : (state : State) (count : ℕ) → 0 < walk state count .left 
 unfolding walk
 walk-blanked state count = by (eqb (state .queue .waiting) 0)
   where
+    -- by whether nothing waits: then no dot is left
     by : (none : Bool)
         → let there = cond none (record { at = positionAfter (state .at) count (controlWord state 1); left = 0 }) (to-blank state count) in
         0 < there .left → signalsAt (windowsOf state) (there .at) .blank ≡ true
@@ -144,7 +147,7 @@ module _ (start : Chip) (count : ℕ) (state : State) (store : List ℕ) (left :
   walk-over none =
       (ap (λ (rest : ℕ). afterDots rest (withPosition state (walk state left .at), store)) (sym none) ∙ walk-leads, onward state left (here .2) .0, here .3)
 
-  -- else the next dot is done, and fewer are left
+  -- where the walk leaves dots, the next one is done, and fewer are left
   pub walk-on : 0 < walk state left .left
       → Underway start count (afterDot (withPosition state (walk state left .at), store)) (walk state left .left - 1)
   unfolding afterDots
@@ -161,23 +164,23 @@ module _ (start : Chip) (count : ℕ) (state : State) (store : List ℕ) (left :
 -- ---- what a dot and a run of dots come to
 
 module _ (chip : Chip) where
-  -- 11 and 5
+  -- a dot whose state is bad or whose store has another length is refused by 11 or 5, and leaves all as it was
   pub dot-unfit : (refusal : Numbered) → tested chip ≡ refused refusal → dotted chip ≡ (chip, refused refusal)
   unfolding dotted
   dot-unfit refusal e = stops chip _ (callFaults (chip .0) (length (chip .1))) refusal e
 
-  -- neither
+  -- any other dot leaves what a dot leaves, and reports the signals where the beam was
   pub dot-done : GoesOn chip → dotted chip ≡ (afterDot chip, ok (Last (signalsOf (chip .0))))
   unfolding dotted
   dot-done fine = passes chip _ (callFaults (chip .0) (length (chip .1))) fine
 
   module _ (count : ℕ) where
-    -- 11 and 5
+    -- a run of dots whose state is bad or whose store has another length is refused by 11 or 5, and leaves all as it was
     pub dots-unfit : (refusal : Numbered) → tested chip ≡ refused refusal → ran chip count ≡ (chip, refused refusal)
     unfolding ran
     dots-unfit refusal e = stops chip _ (callFaults (chip .0) (length (chip .1))) refusal e
 
-    -- neither
+    -- any other run leaves what so many dots leave, and reports what the last of them does
     pub dots-done : GoesOn chip → ran chip count ≡ (afterDots count chip, ok (lastReport count chip))
     unfolding ran
     dots-done fine = passes chip _ (callFaults (chip .0) (length (chip .1))) fine

@@ -46,7 +46,7 @@ module _ (chip : Chip) (good : goodState (chip .0) ≡ true) (size : length (chi
       → readBack chip address .1 ≡ ok (stored (chip .1) register)
   read-stored address register names here = read-named address register names ∙ ap ok (stored-shown chip register here)
 
--- so it does not rest on the state: whatever its control words, its position and its queue
+-- what a read of a block in the store answers does not rest on the state: whatever its control words, its position and its queue
 pub read-not-waiting : (state state′ : State) (store : List ℕ) → goodState state ≡ true → goodState state′ ≡ true → length store ≡ storeLength
     → (address : ℕ) (register : Register) → named address ≡ Is register → inStore (register .block) ≡ true
     → readBack (state, store) address .1 ≡ readBack (state′, store) address .1

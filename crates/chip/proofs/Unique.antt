@@ -27,9 +27,11 @@ use Rattle.chip.proofs.state.State.read.Reads as read
 use Rattle.chip.proofs.state.State.dot.Reads as dot
 use Rattle.chip.proofs.state.State.dots.Reads as dots
 
+-- one state is fresh
 pub new-unique : OneAnswer new.Post
 new-unique = by-equation _ _
 
+-- one answer says whether a state keeps its rule
 pub good-unique : OneAnswer good.Post
 good-unique = by-equation _ _
 
@@ -44,6 +46,7 @@ same-result {Said} {Answer} {Result} told answer-of back result state state′ a
 
 -- ---- write
 
+-- a write has one answer and leaves one store
 pub write-unique : OneOutcome (λ k exit. now (exit .1 .0)) write.Post
 write-unique =
     by-outcome (λ k (r : Written). r .state) (λ k (r : Written). answerOutcome (r .answer))
@@ -54,14 +57,17 @@ write-unique =
 
 -- ---- read
 
+-- the answer of a read that says an outcome
 abbrev read-answer : Outcome Numbered ℕ → ReadAnswer
 read-answer (ok word) = Word word
 read-answer (refused refusal) = ReadRefused (refusalOf refusal)
 
+-- a read's answer is known by what it says
 read-back : (answer : ReadAnswer) → read-answer (read-spec.readOutcome answer) ≡ answer
 read-back (Word word) = refl
 read-back (ReadRefused refusal) = ap ReadRefused (known refusal)
 
+-- a read has one answer
 pub read-unique : OneAnswer read.Post
 read-unique =
     by-saying (λ k (r : ReadBack). r .state) (λ k (r : ReadBack). read-spec.readOutcome (r .answer))
@@ -72,7 +78,7 @@ read-unique =
 
 -- ---- dots
 
--- the answer of which an outcome is said
+-- the answer of dots that says an outcome
 abbrev dots-answer : Outcome Numbered Report → DotsAnswer
 dots-answer (ok report) = Reported report
 dots-answer (refused refusal) = DotsRefused (refusalOf refusal)
@@ -88,10 +94,10 @@ same-dots r r′ =
     same-result dotsOutcome dots-answer dots-back (λ (state : State) (answer : DotsAnswer). record { state = state; answer = answer })
     (r .state) (r′ .state) (r .answer) (r′ .answer)
 
--- a dot has one outcome
+-- a dot has one answer and leaves one store
 pub dot-unique : OneOutcome (λ k exit. now (exit .1 .0)) dot.Post
 dot-unique = by-outcome (λ k (r : Dotted). r .state) (λ k (r : Dotted). dotsOutcome (r .answer)) (λ k. same-dots) _ (λ k exit. now (exit .1 .0)) _
 
--- so many dots have one outcome
+-- so many dots have one answer and leave one store
 pub dots-unique : OneOutcome (λ k exit. now (exit .1 .0)) dots.Post
 dots-unique = by-outcome (λ k (r : Dotted). r .state) (λ k (r : Dotted). dotsOutcome (r .answer)) (λ k. same-dots) _ (λ k exit. now (exit .1 .0)) _

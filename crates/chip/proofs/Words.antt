@@ -19,7 +19,7 @@ module _ (words : List ℕ) (word : ℕ) (here : word < length words) where
   pub good-on : fits (record { block = Control; word = word }) (getD words word 0) ≡ true → goodWords (word + 1) (drop (word + 1) words) ≡ goodWords word (drop word words)
   good-on e = sym (good-from ∙ ap (λ test. test && goodWords (word + 1) (drop (word + 1) words)) e)
 
-  -- one with stray bits decides it
+  -- a word with stray bits decides the test
   pub good-off : fits (record { block = Control; word = word }) (getD words word 0) ≡ false → false ≡ goodWords word (drop word words)
   good-off e = sym (good-from ∙ ap (λ test. test && goodWords (word + 1) (drop (word + 1) words)) e)
 

@@ -31,18 +31,18 @@ module _ (chip : Chip) (address value : ℕ) where
       ∙ ap (λ (first : Outcome Numbered (Unit {0})). andThen first (λ passed. verdict (addressFaults (full (chip .0 .queue)) address value))) (sym e)
       ∙ ap (λ (filled : Bool). writeTest allowed filled address value) (sym f)
 
-  -- refused by 11, 5, 1, 2, 3 or 4
+  -- a write of which a fault holds is refused by the first, and leaves all as it was
   pub write-refused : (refusal : Numbered) → verdict (writeFaults chip address value) ≡ refused refusal → written chip address value ≡ (chip, refused refusal)
   unfolding written
   write-refused refusal e = stops chip _ (writeFaults chip address value) refusal e
 
   module _ (fine : verdict (writeFaults chip address value) ≡ ok tt) (register : Register) (there : named address ≡ Is register) where
-    -- refused by none of them
+    -- a write of which no fault holds goes to its register
     pub write-goes : written chip address value ≡ (put chip register value, ok tt)
     unfolding written
     write-goes = passes chip _ (writeFaults chip address value) fine ∙ ap (λ (what : Named). (putNamed chip what value, ok tt)) there
 
-    -- then the register can be written, and the store has its length
+    -- where a write goes to its register, the register can be written, and the store has its length
     pub goes-says : (readOnly register ≡ false) × (length (chip .1) ≡ storeLength)
     goes-says =
         let clear = clear-verdict (writeFaults chip address value) fine in

@@ -17,13 +17,17 @@ use refusals::Refusal;
 
 // What a read answers.
 pub enum ReadAnswer {
+    // this word is what the register shows
     Word(u32),
+    // nothing is shown, for this reason
     Refused(Refusal),
 }
 
 // The state that a read hands back, and its answer.
 pub struct ReadBack {
+    // the state, as it was
     pub state: State,
+    // what the read answers
     pub answer: ReadAnswer,
 }
 

@@ -15,8 +15,11 @@ use refusals::Refusal;
 // All that the chip holds besides the store.
 #[repr(C)]
 pub struct State {
+    // control words 0 to 8, which are stored
     pub control: [u32; 9],
+    // where the beam is
     pub at: Position,
+    // the colour writes that wait
     pub queue: Queue,
 }
 

@@ -22,13 +22,17 @@ use refusals::Refusal;
 
 // The state that a write hands back, and its answer.
 pub struct Written {
+    // the state after the write; as it was where that is refused
     pub state: State,
+    // whether the write was done
     pub answer: Answer,
 }
 
 // What becomes of a write: it goes to a register, or is refused.
 enum Verdict {
+    // it goes to this register
     To(Register),
+    // it is refused, for this reason
     Refused(Refusal),
 }
 

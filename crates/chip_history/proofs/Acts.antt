@@ -23,7 +23,7 @@ pub data Acts : List Waiting → List (List Waiting) → List Waiting → List W
   -- a blanked dot finds nothing
   finds-none : {last : List Waiting} {dark : List (List Waiting)} {took : List Waiting} → Acts [] dark took last → Acts [] ([] ∷ dark) took last
 
--- one stretch and then another
+-- what two stretches of acts do one after the other is one stretch
 pub acts-then : {first middle last : List Waiting} {dark dark′ : List (List Waiting)} {took took′ : List Waiting}
     → Acts first dark took middle → Acts middle dark′ took′ last → Acts first (dark ++ dark′) (took ++ took′) last
 acts-then still b = b

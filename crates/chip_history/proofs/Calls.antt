@@ -35,11 +35,12 @@ write-whole chip address value whole (into register p) = rw (p .left) (put-whole
 dotted-whole : (chip : Chip) → HasArrays (chip .0) → HasArrays (dotted chip .0 .0)
 dotted-whole chip whole = by (tested chip) refl
   where
+    -- by whether the dot may go on
     by : (test : Outcome Numbered (Unit {0})) → tested chip ≡ test → HasArrays (dotted chip .0 .0)
     by (ok _) on = rw (dot-done chip on) (dot-whole chip whole)
     by (refused refusal) off = rw (dot-unfit chip refusal off) whole
 
--- so does every call
+-- every call leaves the arrays their sizes, refused or not
 pub call-whole : (chip : Chip) (call : Call) → HasArrays (chip .0) → HasArrays (leftBy chip call .0)
 unfolding leftBy
 call-whole chip (write address value) whole = write-whole chip address value whole (wrote chip address value)
@@ -47,12 +48,13 @@ call-whole chip (read address) whole = subst (λ (left : Chip). HasArrays (left 
 call-whole chip dot whole = dotted-whole chip whole
 call-whole chip (dots count) whole = by (tested chip) refl
   where
+    -- by whether the run of dots may go on
     by : (test : Outcome Numbered (Unit {0})) → tested chip ≡ test → HasArrays (ran chip count .0 .0)
     by (ok _) on = rw (dots-done chip count on) (dots-whole count chip whole)
     by (refused refusal) off = rw (dots-unfit chip count refusal off) whole
 call-whole chip line whole = whole
 
--- so does every sequence
+-- every sequence of calls leaves the arrays their sizes
 pub stays-whole : (chip : Chip) (calls : List Call) → HasArrays (chip .0) → HasArrays (end chip calls .0)
 unfolding end
 stays-whole chip [] whole = whole
@@ -70,25 +72,26 @@ pub record Law (Holds : Chip → List (List Waiting) → List Waiting → Chip �
   pub step : (chip : Chip) → HasArrays (chip .0) → GoesOn chip → Holds chip (blankedBy (ok (Last (signalsOf (chip .0)))) (chip .0 .queue)) [] (afterDot chip)
 
 module _ (Holds : Chip → List (List Waiting) → List Waiting → Chip → Type 0) (law : Law Holds) where
-  -- it holds of a write
+  -- the law holds of a write
   law-write : (chip : Chip) (address value : ℕ) → HasArrays (chip .0) → Wrote chip address value
       → Holds chip [] (accepts chip (write address value)) (written chip address value .0)
   law-write chip address value whole (nothing same none) = rw (same, none) (law .none chip)
   law-write chip address value whole (into register p) = rw (p .left, p .taken) (law .puts chip address value register whole p)
 
-  -- it holds of a dot that left this and answered so
+  -- the law holds of a dot that left this and answered so
   abbrev Dotted : Chip → Chip × Outcome Numbered Report → Type 0
   Dotted chip all = Holds chip (blankedBy (all .1) (chip .0 .queue)) [] (all .0)
 
-  -- it holds of a dot
+  -- the law holds of a dot
   law-dot : (chip : Chip) → HasArrays (chip .0) → Dotted chip (dotted chip)
   law-dot chip whole = by (tested chip) refl
     where
+      -- by whether the dot may go on
       by : (test : Outcome Numbered (Unit {0})) → tested chip ≡ test → Dotted chip (dotted chip)
       by (ok _) on = subst (Dotted chip) (sym (dot-done chip on)) (law .step chip whole on)
       by (refused refusal) off = subst (Dotted chip) (sym (dot-unfit chip refusal off)) (law .none chip)
 
-  -- it holds of so many dots
+  -- the law holds of so many dots
   law-dots : (count : ℕ) (chip : Chip) → HasArrays (chip .0) → Holds chip (blankedDots count chip) [] (end chip (replicate count dot))
   unfolding leftBy end blankedDots
   law-dots zero chip whole = law .none chip
@@ -96,7 +99,7 @@ module _ (Holds : Chip → List (List Waiting) → List Waiting → Chip → Typ
       law .then chip (dotted chip .0) (end (dotted chip .0) (replicate count dot)) _ _ [] [] (law-dot chip whole)
       (law-dots count (dotted chip .0) (dotted-whole chip whole))
 
-  -- it holds of every call
+  -- the law holds of every call
   law-call : (chip : Chip) (call : Call) → HasArrays (chip .0) → Holds chip (blanks chip call) (accepts chip call) (leftBy chip call)
   unfolding leftBy end accepts blanks
   law-call chip (write address value) whole = law-write chip address value whole (wrote chip address value)
@@ -105,7 +108,7 @@ module _ (Holds : Chip → List (List Waiting) → List Waiting → Chip → Typ
   law-call chip (dots count) whole = rw (dots-as-dots chip count whole) (law-dots count chip whole)
   law-call chip line whole = law .none chip
 
-  -- it holds of every sequence
+  -- the law holds of every sequence of calls
   pub law-calls : (chip : Chip) (calls : List Call) → HasArrays (chip .0) → Holds chip (blanked chip calls) (accepted chip calls) (end chip calls)
   unfolding end accepted blanked
   law-calls chip [] whole = law .none chip

@@ -19,7 +19,7 @@ dot-goes-on chip whole on =
     let said = allowed-says (chip .0) (length (chip .1)) on in
     says-allowed (afterDot chip .0) (length (afterDot chip .1)) (dot-good chip whole (said .0)) (dot-length chip ∙ said .1)
 
--- single dots that go on
+-- single dots that may go on leave what so many dots leave
 dots-on : (count : ℕ) (chip : Chip) → HasArrays (chip .0) → GoesOn chip → end chip (replicate count dot) ≡ afterDots count chip
 unfolding leftBy end afterDots
 dots-on zero chip whole on = refl
@@ -27,7 +27,7 @@ dots-on (suc count) chip whole on =
     ap (λ (left : Chip). end left (replicate count dot)) (ap (λ all. all .0) (dot-done chip on))
     ∙ dots-on count (afterDot chip) (dot-whole chip whole) (dot-goes-on chip whole on)
 
--- single dots that are refused
+-- single dots that are refused leave all as it was
 dots-off : (count : ℕ) (chip : Chip) (refusal : Numbered) → tested chip ≡ refused refusal → end chip (replicate count dot) ≡ chip
 unfolding leftBy end
 dots-off zero chip refusal off = refl
@@ -38,6 +38,7 @@ pub dots-as-dots : (chip : Chip) (count : ℕ) → HasArrays (chip .0) → leftB
 unfolding leftBy
 dots-as-dots chip count whole = by (tested chip) refl
   where
+    -- by whether the dots may go on
     by : (test : Outcome Numbered (Unit {0})) → tested chip ≡ test → leftBy chip (dots count) ≡ end chip (replicate count dot)
     by (ok _) on = ap (λ all. all .0) (dots-done chip count on) ∙ sym (dots-on count chip whole on)
     by (refused refusal) off = ap (λ all. all .0) (dots-unfit chip count refusal off) ∙ sym (dots-off count chip refusal off)
@@ -47,6 +48,7 @@ pub dots-answer : (chip : Chip) (count : ℕ) → HasArrays (chip .0) → ran ch
 unfolding lastReport
 dots-answer chip count whole = by (tested chip) refl
   where
+    -- by whether the dots may go on
     by : (test : Outcome Numbered (Unit {0})) → tested chip ≡ test → ran chip (suc count) .1 ≡ dotted (end chip (replicate count dot)) .1
     by (ok _) on =
         let said = allowed-says (chip .0) (length (chip .1)) on in

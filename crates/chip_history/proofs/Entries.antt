@@ -76,6 +76,7 @@ module _ (entry : ℕ) where
         → held-in (set store (target write) (write .value)) ≡ cond (eqb (write .word) entry) (write .value) (held-in store)
     write-holds store write size = by (eqb (write .word) entry) refl
       where
+        -- by whether the write is to the entry
         by : (same : Bool) → eqb (write .word) entry ≡ same → held-in (set store (target write) (write .value)) ≡ cond same (write .value) (held-in store)
         by true e = rw (eqb-true (write .word) entry e) (getD-set-same store (storeStart ColourMap + entry) (write .value) 0 (omega arith))
         by false e =
@@ -88,6 +89,7 @@ module _ (entry : ℕ) where
     step-holds chip false size = refl
     step-holds chip true size = by (ltb 0 (chip .0 .queue .waiting))
       where
+        -- by whether something waits
         by : (some : Bool)
             → held-in (cond some (oldestApplied chip) chip .1) ≡ latest entry (joined (cond some (oldest (chip .0 .queue) ∷ []) [] ∷ [])) (held-in (chip .1))
         by true = write-holds (chip .1) (oldest (chip .0 .queue)) size
@@ -97,7 +99,7 @@ module _ (entry : ℕ) where
     abbrev Held : Chip → List (List Waiting) → List Waiting → Chip → Type 0
     Held first dark took last = held-in (last .1) ≡ latest entry (joined dark) (held-in (first .1))
 
-    -- it goes by the applied writes alone
+    -- an entry of the map goes by the applied writes alone
     holds : Law Held
     unfolding afterDot drains
     holds =
@@ -114,7 +116,7 @@ module _ (entry : ℕ) where
         → getD (end chip calls .1) (storeStart ColourMap + entry) 0 ≡ latest entry (applied chip calls) (getD (chip .1) (storeStart ColourMap + entry) 0)
     map-entry = law-calls Held holds
 
-    -- so from a fresh state
+    -- from a fresh state on, the entry holds the colour of the last applied write to it, or what it held in the store
     pub fresh-map-entry : (store : List ℕ) (calls : List Call)
         → getD (end (fresh, store) calls .1) (storeStart ColourMap + entry) 0
         ≡ latest entry (applied (fresh, store) calls) (getD store (storeStart ColourMap + entry) 0)

@@ -38,7 +38,7 @@ module _ (chip : Chip) (calls : List Call) (whole : HasArrays (chip .0)) (good :
     acts-exact (calls-act chip calls whole) k zeroSlot stands,
   )
 
-  -- so once 64 blanked dots have come it has been applied
+  -- once 64 blanked dots have come, a write that waited has been applied
   pub within-64 : 64 ≤ length (blanked chip calls) → getD (blanked chip calls) k [] ≡ getD (waitingIn (chip .0 .queue)) k zeroSlot ∷ []
   unfolding end
   within-64 enough = exact-dot .1 (omega (arith, few-wait chip [] whole good))

@@ -53,6 +53,7 @@ step-acts : (chip : Chip) → HasSlots (chip .0 .queue) → chip .0 .queue .wait
 step-acts chip sized few false = still
 step-acts chip sized few true = by (ltb 0 (chip .0 .queue .waiting)) refl
   where
+    -- by whether something waits
     by : (some : Bool) → ltb 0 (chip .0 .queue .waiting) ≡ some
         → let queue = chip .0 .queue in
         Acts (waitingIn queue) (cond some (oldest queue ∷ []) [] ∷ []) [] (waitingIn (cond some (oldestApplied chip) chip .0 .queue))
@@ -78,7 +79,7 @@ blank-counts signals queue = one-or-none (signals .blank) (front queue)
 abbrev Queued : Chip → List (List Waiting) → List Waiting → Chip → Type 0
 Queued first dark took last = Acts (waitingIn (first .0 .queue)) dark took (waitingIn (last .0 .queue))
 
--- writes join it and blanked dots take from it
+-- writes join the queue and blanked dots take from it
 queued : Law Queued
 unfolding afterDot drains
 queued =

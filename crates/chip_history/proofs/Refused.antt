@@ -21,7 +21,7 @@ use Rattle.chip.specs.Dots.{afterDots, lastReport, ran}
 use Rattle.chip.specs.declared.report.Report.the-variants.{Last}
 use Rattle.chip_history.specs.Calls.{Call, write, read, dot, dots, line, leftBy, faultsOf, RefusedBy}
 
--- a call is refused exactly by the first of its faults that holds
+-- what refuses a call is the first of its faults that holds
 pub refused-exactly : (chip : Chip) (call : Call) (refusal : Numbered) → RefusedBy chip call refusal → First (faultsOf chip call) refusal
 unfolding written readBack dotted ran
 refused-exactly chip (write address value) refusal e = refused-first chip (putNamed chip (named address) value, tt) (writeFaults chip address value) refusal e
@@ -30,7 +30,7 @@ refused-exactly chip dot refusal e = refused-first chip (afterDot chip, Last (si
 refused-exactly chip (dots count) refusal e = refused-first chip (afterDots count chip, lastReport count chip) (callFaults (chip .0) (length (chip .1))) refusal e
 refused-exactly chip line refusal e = absurd e
 
--- and by that one it is refused, all left as it was
+-- a call is refused by the first of its faults that holds, and leaves all as it was
 pub exactly-refused : (chip : Chip) (call : Call) (refusal : Numbered) → (call ≡ line → ⊥) → First (faultsOf chip call) refusal
     → RefusedBy chip call refusal × (leftBy chip call ≡ chip)
 unfolding leftBy written readBack dotted ran
@@ -44,10 +44,11 @@ exactly-refused chip (dots count) refusal real f =
     let e = first-holds chip (afterDots count chip, lastReport count chip) (callFaults (chip .0) (length (chip .1))) refusal f in (ap (λ all. all .1) e, ap (λ all. all .0) e)
 exactly-refused chip line refusal real f = absurd (real refl)
 
--- so a refused call leaves all as it was
+-- a refused call leaves all as it was
 pub refused-same : (chip : Chip) (call : Call) (refusal : Numbered) → RefusedBy chip call refusal → leftBy chip call ≡ chip
 refused-same chip call refusal e = exactly-refused chip call refusal (real call e) (refused-exactly chip call refusal e) .1
   where
+    -- a call that is refused is no line
     real : (call : Call) → RefusedBy chip call refusal → call ≡ line → ⊥
     real call e same = subst (λ (call : Call). RefusedBy chip call refusal) same e
 
@@ -56,6 +57,7 @@ unless-same : {Memory Answer : Type 0} (before : Memory) (answer : Answer) (faul
 unless-same before answer [] = refl
 unless-same before answer (fault ∷ faults) = by (fault .holds) (unless-same before answer faults)
   where
+    -- by whether the first fault holds, else by those behind it
     by : (test : Bool) → unless faults before (before, answer) .0 ≡ before
         → cond test (before, refused (fault .refusal)) (unless faults before (before, answer)) .0 ≡ before
     by true rest = refl
@@ -71,13 +73,13 @@ abbrev Avoids : ℕ → List Fault → Type 0
 Avoids number [] = Unit {0}
 Avoids number (fault ∷ faults) = (fault .holds ≡ true → fault .refusal .number ≡ number → ⊥) × Avoids number faults
 
--- so not the one between others
+-- where none of some faults that holds has a number, a fault between others that holds has another
 avoids-one : (number : ℕ) (passed : List Fault) (found : Fault) (later : List Fault) → Avoids number (passed ++ (found ∷ later))
     → found .holds ≡ true → found .refusal .number ≡ number → ⊥
 avoids-one number [] found later avoids = avoids .0
 avoids-one number (fault ∷ passed) found later avoids = avoids-one number passed found later (avoids .1)
 
--- and no call is refused by it
+-- a call of which no fault that holds has a number is not refused by it
 module _ {Memory Answer : Type 0} (before : Memory) (does : Memory × Answer) (faults : List Fault) (number : ℕ) (avoids : Avoids number faults) where
   -- a refusal does not have a number that no fault which holds has
   avoids-all : (refusal : Numbered) → unless faults before does .1 ≡ refused refusal → refusal .number ≡ number → ⊥
@@ -90,12 +92,12 @@ module _ (chip : Chip) (good : goodState (chip .0) ≡ true) where
   avoids-11 : (others : List Fault) → Avoids 11 others → Avoids 11 (callFaults (chip .0) (length (chip .1)) ++ others)
   avoids-11 others avoids = (λ holds e. false≢true (rw good at holds), (λ holds e. omega arith, avoids))
 
-  -- the faults of a write by what its address names
+  -- what an address names is no fault of number 11 of a write
   write-avoids : (names : Named) (place value : ℕ) → Avoids 11 (registerFaults (full (chip .0 .queue)) names place value)
   write-avoids Nothing place value = (λ holds e. omega arith, tt)
   write-avoids (Is register) place value = (λ holds e. omega arith, (λ holds e. omega arith, (λ holds e. omega arith, tt)))
 
-  -- those of a read
+  -- what an address names is no fault of number 11 of a read
   read-avoids : (names : Named) (place : ℕ) → Avoids 11 (nameFaults names place)
   read-avoids Nothing place = (λ holds e. omega arith, tt)
   read-avoids (Is register) place = tt

@@ -22,7 +22,7 @@ use Rattle.chip_history.proofs.Calls.{Law, law-calls}
 abbrev SameLength : Chip → List (List Waiting) → List Waiting → Chip → Type 0
 SameLength first dark took last = length (last .1) ≡ length (first .1)
 
--- nothing changes the length
+-- no write and no dot changes the length of the store
 same-length : Law SameLength
 same-length =
     record {

@@ -57,11 +57,12 @@ module _ (chip : Chip) (address value : ℕ) where
         taken = ap (λ all. acceptedBy (all .1) (colourWrite (named address) value)) does ∙ ap (λ (names : Named). colourWrite names value) e;
       }
 
-  -- every write did one of the two
+  -- every write put its value into a register, or did nothing
   pub wrote : Wrote chip address value
   unfolding written accepts
   wrote = by (written chip address value .1) refl
     where
+      -- by what the write answered
       by : (outcome : Outcome Numbered Unit) → written chip address value .1 ≡ outcome → Wrote chip address value
       by (ok answer) e =
           wrote-on (accepted-clear chip (putNamed chip (named address) value, tt) (writeFaults chip address value) answer e) (named address) refl

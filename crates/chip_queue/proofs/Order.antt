@@ -17,11 +17,11 @@ module _ (queue : Queue) (write : Waiting) (more : queue .waiting < 64) where
   unfolding pushed full
   pushed-is = simp (lt-leb 64 (queue .waiting) more) refl
 
-  -- it stands behind those that wait
+  -- where there is room, one more write stands behind those that wait
   pub waiting-pushed : HasSlots queue → waitingIn (pushed queue write) ≡ waitingIn queue ++ (write ∷ [])
   waiting-pushed sized = ap waitingIn pushed-is ∙ rw add-one (take-suc-set (queue .slots) (queue .waiting) write (omega arith))
 
-  -- there are as many slots as before
+  -- a queue with one more write has as many slots as before
   pub sized-pushed : HasSlots queue → HasSlots (pushed queue write)
   sized-pushed sized = rw pushed-is (simp length-set sized)
 
@@ -40,14 +40,15 @@ take-shift (suc n) (a ∷ slots) last h =
     rw e (take-front n slots last (omega arith))
 
 module _ (queue : Queue) (sized : HasSlots queue) where
-  -- the oldest leaves
+  -- without the oldest write, the others wait in their order
   pub waiting-popped : queue .waiting ≤ 64 → waitingIn (popped queue) ≡ drop 1 (waitingIn queue)
   waiting-popped few = take-shift (queue .waiting) (queue .slots) zeroSlot (omega arith)
 
-  -- there are as many slots as before
+  -- a queue without its oldest write has as many slots as before
   pub sized-popped : HasSlots (popped queue)
   sized-popped = by (queue .slots) sized
     where
+      -- of 64 slots one leaves in front and one joins behind
       by : (slots : List Waiting) → length slots ≡ 64 → length (drop 1 slots ++ (zeroSlot ∷ [])) ≡ 64
       by [] h = absurd (omega arith)
       by (a ∷ slots) h = simp length-append (omega arith)
@@ -56,6 +57,7 @@ module _ (queue : Queue) (sized : HasSlots queue) where
   pub waiting-front : 0 < queue .waiting → waitingIn queue ≡ oldest queue ∷ drop 1 (waitingIn queue)
   waiting-front some = by (queue .waiting) (queue .slots) some (omega arith)
     where
+      -- of the first n slots, n above 0, the front is slot 0
       by : (n : ℕ) (slots : List Waiting) → 0 < n → 0 < length slots → take n slots ≡ getD slots 0 zeroSlot ∷ drop 1 (take n slots)
       by zero slots h l = absurd (omega arith)
       by (suc n) [] h l = absurd (omega arith)
@@ -65,6 +67,7 @@ module _ (queue : Queue) (sized : HasSlots queue) where
 pub length-waiting : (queue : Queue) → HasSlots queue → queue .waiting ≤ 64 → length (waitingIn queue) ≡ queue .waiting
 length-waiting queue sized few = by (queue .waiting) (queue .slots) (omega arith)
   where
+    -- where there are n slots, the first n are n
     by : (n : ℕ) (slots : List Waiting) → n ≤ length slots → length (take n slots) ≡ n
     by zero slots h = refl
     by (suc n) [] h = absurd (omega arith)

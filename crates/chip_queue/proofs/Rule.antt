@@ -37,7 +37,7 @@ module _ (queue : Queue) (i : ℕ) (d : Waiting) (here : i < queue .waiting) (si
   pub good-on : goodWrite (getD (queue .slots) i d) ≡ true → allGood (drop (i + 1) (waitingIn queue)) ≡ allGood (drop i (waitingIn queue))
   good-on e = sym (good-from ∙ ap (λ test. test && allGood (drop (i + 1) (waitingIn queue))) e)
 
-  -- a bad one decides it
+  -- a bad write decides the test
   pub good-off : goodWrite (getD (queue .slots) i d) ≡ false → false ≡ allGood (drop i (waitingIn queue))
   good-off e = sym (good-from ∙ ap (λ test. test && allGood (drop (i + 1) (waitingIn queue))) e)
 
@@ -47,12 +47,12 @@ good-over queue i h = rw (drop-of-length-le (waitingIn queue) {i = i} (simp leng
 
 -- ---- what the rule says
 
--- at most 64 wait, and all that wait are good
+-- in a queue that keeps the rule at most 64 wait, and all that wait are good
 pub good-says : (queue : Queue) → goodQueue queue ≡ true → (queue .waiting ≤ 64) × (allGood (waitingIn queue) ≡ true)
 unfolding goodQueue
 good-says queue good = let e = both _ _ good in (leb-true _ _ (e .0), e .1)
 
--- and that is all that it says
+-- where at most 64 wait and all that wait are good, the queue keeps the rule
 pub says-good : (queue : Queue) → queue .waiting ≤ 64 → allGood (waitingIn queue) ≡ true → goodQueue queue ≡ true
 unfolding goodQueue
 says-good queue few good = rw (le-leb _ _ few) good
@@ -71,7 +71,7 @@ pub write-says : (write : Waiting) → goodWrite write ≡ true
 unfolding goodWrite
 write-says write good = let e = both _ _ good in (ltb-true _ _ (e .0), e .1)
 
--- and that is all that it asks
+-- a write to a colour entry with no bits but those that it keeps is good
 pub says-write : (write : Waiting) → write .word < count ColourMap → fits (registerOf write) (write .value) ≡ true → goodWrite write ≡ true
 unfolding goodWrite
 says-write write here fine = rw (lt-ltb _ _ here) fine

@@ -11,29 +11,38 @@ use Rattle.chip_queue.proofs.Queue.pushed.Reads as pushed
 use Rattle.chip_queue.proofs.Queue.popped.Reads as popped
 use Rattle.chip_queue.proofs.Queue.good.Reads as good
 
+-- one answer says whether a write may wait
 pub waiting-good-unique : OneAnswer good-write.Post
 waiting-good-unique = by-equation _ _
 
+-- one answer says where a write goes in the store
 pub target-unique : OneAnswer target.Post
 target-unique = by-equation _ _
 
+-- one answer says the queue in which nothing waits
 pub new-unique : OneAnswer new.Post
 new-unique = by-equation _ _
 
+-- one answer says how many more writes can wait
 pub room-unique : OneAnswer room.Post
 room-unique = by-equation _ _
 
+-- one answer says whether the queue is full
 pub full-unique : OneAnswer full.Post
 full-unique = by-equation _ _
 
+-- one answer says the oldest write
 pub oldest-unique : OneAnswer oldest.Post
 oldest-unique = by-equation _ _
 
+-- one answer says the queue with one more write
 pub pushed-unique : OneAnswer pushed.Post
 pushed-unique = by-equation _ _
 
+-- one answer says the queue without its oldest write
 pub popped-unique : OneAnswer popped.Post
 popped-unique = by-equation _ _
 
+-- one answer says whether a queue keeps the rule
 pub queue-good-unique : OneAnswer good.Post
 queue-good-unique = by-equation _ _

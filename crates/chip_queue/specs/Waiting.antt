@@ -9,7 +9,7 @@ use Rattle.chip_registers.specs.declared.Block.the-variants.{ColourMap}
 use Rattle.chip_registers.specs.declared.Register.{Register}
 use Rattle.chip_queue.specs.declared.Waiting.{Waiting}
 
--- the register that it is for: a colour entry
+-- the register that a write that waits is for: a colour entry
 abbrev pub registerOf : Waiting → Register
 registerOf write = record { block = ColourMap; word = write .word }
 
@@ -21,6 +21,6 @@ writeTo register value = record { word = register .word; value = value }
 unfoldable pub goodWrite : Waiting → Bool
 goodWrite write = ltb (write .word) (count (registerOf write .block)) && fits (registerOf write) (write .value)
 
--- where it goes in the store
+-- where a write that waits goes in the store
 abbrev pub target : Waiting → ℕ
 target write = storeStart (registerOf write .block) + registerOf write .word

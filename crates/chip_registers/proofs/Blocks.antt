@@ -23,7 +23,7 @@ module _ (block : Block) (place : ℕ) where
   unfolding isWordOf
   past-end h = rw (le-ltb (wordAt block place) (count block) h) (and-false (leb (start block) place))
 
-  -- the places between are its words
+  -- the places from a block's start up to its last word are its words
   pub within : start block ≤ place → wordAt block place < count block → isWordOf block place ≡ true
   unfolding isWordOf
   within h k = rw (le-leb (start block) place h, lt-ltb (wordAt block place) (count block) k)

@@ -79,6 +79,7 @@ module _ (place : ℕ) (register : Register) where
   among-word [] e = impossible (cc)
   among-word (block ∷ others) e = by (isWordOf block place) refl (among-word others)
     where
+      -- by whether the place is a word of the first block, else of the others
       by : (test : Bool) → isWordOf block place ≡ test → (among others place ≡ Is register → register .word < count (register .block)) → register .word < count (register .block)
       by true is rest = let same : register ≡ record { block = block; word = wordAt block place } = cc in rw same (below-count block place is)
       by false is rest = rest (rw is at e)
@@ -88,6 +89,7 @@ pub named-word : (address : ℕ) (register : Register) → named address ≡ Is 
 unfolding named
 named-word address register e = by (eqb (addressPlace address % 4) 0) refl
   where
+    -- by whether the place is a multiple of 4
     by : (test : Bool) → eqb (addressPlace address % 4) 0 ≡ test → register .word < count (register .block)
     by true is = among-word (addressPlace address) register blocks (rw is at e)
     by false is = let wrong : Nothing ≡ Is register = rw is at e in impossible (cc)
@@ -109,11 +111,12 @@ stands-at block place aligned is =
     ⊎-elim (λ from. omega (arith, start-aligned block, from)) (λ before. impossible (cc (before-start block place before))) (le-or-lt (start block) place)
 
 module _ (place : ℕ) (register : Register) (aligned : place % 4 ≡ 0) where
-  -- so the register that a place is in some blocks
+  -- the register that a place is in some blocks stands four times its number behind its block's start
   among-place : (some : List Block) → among some place ≡ Is register → place ≡ start (register .block) + 4 * register .word
   among-place [] e = impossible (cc)
   among-place (block ∷ others) e = by (isWordOf block place) refl (among-place others)
     where
+      -- by whether the place is a word of the first block, else of the others
       by : (test : Bool) → isWordOf block place ≡ test → (among others place ≡ Is register → place ≡ start (register .block) + 4 * register .word)
           → place ≡ start (register .block) + 4 * register .word
       by true is rest = let same : register ≡ record { block = block; word = wordAt block place } = cc in rw same (stands-at block place aligned is)
@@ -124,6 +127,7 @@ pub named-place : (address : ℕ) (register : Register) → named address ≡ Is
 unfolding named
 named-place address register e = by (eqb (addressPlace address % 4) 0) refl
   where
+    -- by whether the place is a multiple of 4
     by : (test : Bool) → eqb (addressPlace address % 4) 0 ≡ test → addressPlace address ≡ start (register .block) + 4 * register .word
     by true is = among-place (addressPlace address) register (eqb-true (addressPlace address % 4) 0 is) blocks (rw is at e)
     by false is = let wrong : Nothing ≡ Is register = rw is at e in impossible (cc)

@@ -19,12 +19,12 @@ inStore block = rowOf block .stored
 abbrev pub storeWords : Block → ℕ
 storeWords block = cond (inStore block) (count block) 0
 
--- how many words some blocks take in it
+-- how many words some blocks take in the store
 abbrev pub allWords : List Block → ℕ
 allWords [] = 0
 allWords (block ∷ others) = storeWords block + allWords others
 
--- how many words those of some blocks take in it that stand before a block, which is told by where it starts
+-- how many words of the store those of some blocks take that stand before a block, which is told by where it starts
 abbrev pub wordsBefore : Block → List Block → ℕ
 wordsBefore block [] = 0
 wordsBefore block (other ∷ others) = cond (eqb (start other) (start block)) 0 (storeWords other + wordsBefore block others)

@@ -263,7 +263,7 @@ impl Register {
         }
     }
 
-    // Whether a value has no other bits.
+    // Whether a value has no bits but those that the register keeps.
     pub fn fits(self, value: u32) -> bool
         ensures { λ r. ⌜ r ≡ fits self value ⌝ }
     {

@@ -83,6 +83,7 @@ run-for-ever ws empty at =
     let e = both-hold (isEmpty (ws .hblank)) (isEmpty (ws .vblank)) empty in
     rw (empty-holds (ws .hblank) (at .x) (e .0)) (empty-holds (ws .vblank) (at .y) (e .1))
   where
+    -- where `and` is true, both are
     both-hold : (a b : Bool) → (a && b) ≡ true → (a ≡ true) × (b ≡ true)
     both-hold true b e = (refl, e)
     both-hold false b e = absurd (true≢false (sym e))

@@ -25,7 +25,7 @@ unfolding walked
 walk-here ws at word zero held = refl
 walk-here ws at word (suc most) held = rw held
 
--- a clear one moves on
+-- from a clear position the walk moves on
 pub walk-on : (ws : Windows) (at : Position) (word most : ℕ) → signalsAt ws at .blank ≡ false
     → walked ws at word (suc most) ≡ walked ws (nextPosition at word) word most
 unfolding walked
@@ -93,7 +93,7 @@ module _ (ws : Windows) (at : Position) (word most : ℕ) where
         ],
       )
 
-  -- how far it came where it ends
+  -- how far the walk came where it ends
   came : Came (walked ws at word most .left) (walked ws at word most .at)
   unfolding Came positionAfter
   came =
@@ -110,7 +110,7 @@ module _ (ws : Windows) (at : Position) (word most : ℕ) where
   unfolding Came
   walk-at = came .1
 
-  -- every position before that is clear
+  -- every position before the one where the walk ends is clear
   pub walk-clear : (i : ℕ) → i < most - walked ws at word most .left → signalsAt ws (positionAfter at i word) .blank ≡ false
   unfolding Came
   walk-clear = came .2

@@ -9,7 +9,7 @@ use Rattle.chip_timing.specs.declared.Position.{Position}
 abbrev pub totalWidth : ℕ → ℕ
 totalWidth word = field word 11 0 + 1
 
--- total lines, which it has less 1 in 27..16
+-- total lines, which control word 1 has less 1 in 27..16
 abbrev pub totalLines : ℕ → ℕ
 totalLines word = field word 27 16 + 1
 

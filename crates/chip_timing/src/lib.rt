@@ -45,7 +45,9 @@ fn is_empty(word: u32) -> bool
 // Where the beam is.
 #[repr(C)]
 pub struct Position {
+    // which dot of the line, from 0 on
     pub x: u32,
+    // which line, from 0 on
     pub y: u32,
 }
 
@@ -110,22 +112,31 @@ impl Position {
 
 // What a position reports.
 pub struct Signals {
+    // whether horizontal sync holds
     pub hsync: bool,
+    // whether vertical sync holds
     pub vsync: bool,
+    // whether horizontal or vertical blank holds
     pub blank: bool,
 }
 
 // How far a walk came: the position, and the moves left.
 pub struct Walk {
+    // where it ended
     pub at: Position,
+    // how many of its moves are left
     pub left: u32,
 }
 
 // Control words 2 to 5: a window each.
 pub struct Windows {
+    // control word 2: horizontal sync, by x
     pub hsync: u32,
+    // control word 3: vertical sync, by y
     pub vsync: u32,
+    // control word 4: horizontal blank, by x
     pub hblank: u32,
+    // control word 5: vertical blank, by y
     pub vblank: u32,
 }
 

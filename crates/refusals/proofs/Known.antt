@@ -91,6 +91,6 @@ pub answer-back : (answer : Answer) → answerOf (answerOutcome answer) ≡ answ
 answer-back Done = refl
 answer-back (Refused refusal) = ap Refused (known refusal)
 
--- so two that say the same are the same
+-- two answers that say the same are the same
 pub answer-known : (answer other : Answer) → answerOutcome answer ≡ answerOutcome other → answer ≡ other
 answer-known answer other says = sym (answer-back answer) ∙ ap answerOf says ∙ answer-back other

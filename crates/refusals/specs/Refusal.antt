@@ -34,11 +34,11 @@ numbered (WrongRecord number) = numberAt 12 number
 numbered (FileEnds number) = numberAt 13 number
 numbered (TooMuch number) = numberAt 14 number
 
--- its number alone
+-- the number of a refusal
 abbrev pub refusalNumber : Refusal → ℕ
 refusalNumber refusal = numbered refusal .number
 
--- its place alone
+-- the place of a refusal
 abbrev pub refusalPlace : Refusal → ℕ
 refusalPlace refusal = placeIn (numbered refusal)
 

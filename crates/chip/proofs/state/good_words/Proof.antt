@@ -9,9 +9,11 @@ use Rattle.chip.proofs.Words.{good-on, good-off, good-over}
 use Rattle.chip.proofs.state.good_words.Statement.{statement}
 use Rattle.chip.proofs.state.good_words.Tie as tie
 
+-- the words before this one are good, so the test from it on is the whole test
 abbrev Inv-loop : tie.InvT-loop
 Inv-loop control word₀ word = (word ≤ 9) × (goodWords word (drop word control) ≡ goodWords 0 control)
 
+-- each turn leaves one word less to test
 abbrev μ-loop : tie.MeasureT-loop
 μ-loop control word₀ word = 9 - word
 

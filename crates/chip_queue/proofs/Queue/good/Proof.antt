@@ -11,9 +11,11 @@ use Rattle.chip_queue.proofs.Rule.{good-on, good-off, good-over}
 use Rattle.chip_queue.proofs.Queue.good.Statement.{statement}
 use Rattle.chip_queue.proofs.Queue.good.Tie as tie
 
+-- the slots before i are good, so the test from slot i on is the whole test
 abbrev Inv-loop : tie.InvT-loop
 Inv-loop self waiting i₀ i = (i ≤ waiting) × (waiting ≡ self .waiting) × (waiting ≤ 64) × (allGood (drop i (waitingIn self)) ≡ goodQueue self)
 
+-- each turn leaves one slot less to test
 abbrev μ-loop : tie.MeasureT-loop
 μ-loop self waiting i₀ i = waiting - i
 

@@ -9,9 +9,11 @@ use Rattle.chip_queue.proofs.Slots.{slide, slid, slid-more, slid-all}
 use Rattle.chip_queue.proofs.Queue.popped.Statement.{statement}
 use Rattle.chip_queue.proofs.Queue.popped.Tie as tie
 
+-- after i turns the first i slots have moved up
 abbrev Inv-loop : tie.InvT-loop
 Inv-loop self₀ i₀ self i = (i ≤ 63) × (self ≡ slid self₀ i)
 
+-- each turn leaves one slot less to move
 abbrev μ-loop : tie.MeasureT-loop
 μ-loop self₀ i₀ self i = 63 - i
 

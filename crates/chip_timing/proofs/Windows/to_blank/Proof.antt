@@ -9,9 +9,11 @@ use Rattle.chip_timing.proofs.Walked.{walk-out, walk-here, walk-skip, w
 use Rattle.chip_timing.proofs.Windows.to_blank.Statement.{statement}
 use Rattle.chip_timing.proofs.Windows.to_blank.Tie as tie
 
+-- the walk from here, by the moves left, is the whole walk
 abbrev Inv-loop : tie.InvT-loop
 Inv-loop self total most at₀ left₀ at left = walked self at total left ≡ walked self at₀ total left₀
 
+-- each turn leaves fewer moves
 abbrev μ-loop : tie.MeasureT-loop
 μ-loop self total most at₀ left₀ at left = left
 

@@ -17,9 +17,11 @@ use Rattle.chip.proofs.Runs.{onward, walk-blanked, Underway, walk-over,
 use Rattle.chip.proofs.state.State.steps.Statement.{statement}
 use Rattle.chip.proofs.state.State.steps.Tie as tie
 
+-- the dots that are left lead where all lead, and the rule and the sizes are kept
 abbrev Inv-loop : tie.InvT-loop
 Inv-loop store₀ count state₀ left₀ store state left = Underway (state₀, store₀) count (state, store) left
 
+-- each turn leaves fewer dots
 abbrev μ-loop : tie.MeasureT-loop
 μ-loop store₀ count state₀ left₀ store state left = left
 
