@@ -22,7 +22,7 @@ pub fn in_window(on: u32, off: u32, p: u32) -> bool
 }
 
 // Whether p is in the window of a control word.
-fn holds(word: u32, p: u32) -> bool
+fn window_holds(word: u32, p: u32) -> bool
     ensures { λ r. ⌜ r ≡ windowHolds word p ⌝ }
 {
     in_window(words::field(word, 11, 0), words::field(word, 27, 16), p)
@@ -145,12 +145,12 @@ impl Windows {
     pub fn signals(self, at: Position) -> Signals
         ensures { λ r. ⌜ r ≡ signalsAt self at ⌝ }
     {
-        let hsync = holds(self.hsync, at.x);
-        let vsync = holds(self.vsync, at.y);
-        let blank = if holds(self.hblank, at.x) {
+        let hsync = window_holds(self.hsync, at.x);
+        let vsync = window_holds(self.vsync, at.y);
+        let blank = if window_holds(self.hblank, at.x) {
             true
         } else {
-            holds(self.vblank, at.y)
+            window_holds(self.vblank, at.y)
         };
         Signals {
             hsync,

@@ -1,8 +1,8 @@
--- `chip_timing::holds` meets its contract: the window that its two fields say. Assumes nothing.
+-- `chip_timing::window_holds` meets its contract: the window that its two fields say. Assumes nothing.
 use borrow.Author.Needs.{needs}
 use Rattle.chip_timing.specs.Signals.{windowHolds}
-use Rattle.chip_timing.proofs.holds.Statement.{statement}
-use Rattle.chip_timing.proofs.holds.Tie as tie
+use Rattle.chip_timing.proofs.window_holds.Statement.{statement}
+use Rattle.chip_timing.proofs.window_holds.Tie as tie
 
 field-requires : tie.Need-field-requires
 field-requires c κs = search needs
@@ -17,5 +17,5 @@ returns : tie.Need-returns
 unfolding windowHolds
 returns c = cc
 
-pub holds-spec : {M : Type 1} → statement M
-holds-spec = tie.close (tie.spec field-requires field-requires-2 in-window-requires returns)
+pub window-holds-spec : {M : Type 1} → statement M
+window-holds-spec = tie.close (tie.spec field-requires field-requires-2 in-window-requires returns)
