@@ -16,6 +16,11 @@ use Rattle.chip_registers.specs.declared.StorePlace.the-variants.{At, No
 pub store-length : storeLength ≡ 4963
 store-length = refl
 
+-- where each block starts: behind the words of those before it in the table, so that no two stand on one word
+pub store-starts :
+    (storeStart WindowEntries ≡ 0) × (storeStart ColourMap ≡ 32) × (storeStart GammaMap ≡ 4640) × (storeStart CursorGlyph ≡ 4896) × (storeStart CursorColours ≡ 4960)
+store-starts = (refl, refl, refl, refl, refl)
+
 -- no block starts past the end of the store
 pub start-le : (block : Block) → storeStart block ≤ storeLength
 start-le Control = omega arith
@@ -34,7 +39,7 @@ index-below GammaMap word stored h = omega arith
 index-below CursorGlyph word stored h = omega arith
 index-below CursorColours word stored h = omega arith
 
--- block by block, where a word stands in the store, a place of it is meant
+-- block by block, a register that has a place in the store is of a block that is in it, and stands so many words behind the block's start
 place-of : (block : Block) (word index : ℕ) → storePlace (record { block = block; word = word }) ≡ At index → (inStore block ≡ true) × (storeStart block + word ≡ index)
 place-of Control word index at = impossible (cc)
 place-of WindowEntries word index at = (refl, cc)

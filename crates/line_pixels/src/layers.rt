@@ -65,6 +65,7 @@ fn normal_at(depth: u32, sampling: Sampling, store: &[u32], normal: &[u8], x: us
         Format::Rgb332 | Format::Rgb444 | Format::Rgb555 | Format::Rgb888 => {
             let shown = entry.shown(sample);
             match shown {
+                // Not taken: these formats show colours of their own.
                 Shown::MapEntry(number) => mapped(store, number),
                 Shown::Colour(colour) => colour.word(),
             }

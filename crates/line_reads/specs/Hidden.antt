@@ -44,7 +44,7 @@ abbrev windowOf : ℕ → Register
 windowOf id = record { block = WindowEntries; word = id }
 
 module _ (setup : Setup) (lent : Lent) where
-  -- what the control words say of every pixel of the line
+  -- what the line goes by of every pixel: switches, depth, cursor and line number
   abbrev screen : Screen
   screen = screenIn setup
 

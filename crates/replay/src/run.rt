@@ -15,7 +15,7 @@ use session::step::step;
 use session_answers::Adds;
 use session_answers::StepAnswer;
 
-// Lists what an answer shows.
+// Lists what an answer adds.
 fn listed(answer: StepAnswer, output: &[u32], text: &mut [u8], course: Course) -> Course
     ensures { λ r. ⌜ r .to ≡ course .to ⌝ }
 {
@@ -36,7 +36,7 @@ fn moved(answer: StepAnswer, place: usize, course: Course) -> Course
     next
 }
 
-// Moves on by a step's answer, lists what it shows, and reads on where it waits for more bytes.
+// Moves on by a step's answer, lists what it adds, and reads on where it waits for more bytes.
 fn answered(
     answer: StepAnswer,
     place: usize,
