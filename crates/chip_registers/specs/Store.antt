@@ -41,10 +41,10 @@ storeLength = allWords blocks
 abbrev pub storePlace : Register → StorePlace
 storePlace register = cond (inStore (register .block)) (At (storeStart (register .block) + register .word)) Nowhere
 
--- a place is one of so many words of a store, if it is in the store at all
+-- a place is one of so many words of a store
 abbrev pub Within : ℕ → StorePlace → Type 0
 Within size (At index) = index < size
-Within size Nowhere = Unit {0}
+Within size Nowhere = ⊥
 
 -- the kept bits of the word at a register's place in a store
 abbrev pub storedAt : List ℕ → Register → StorePlace → ℕ

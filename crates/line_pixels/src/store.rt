@@ -13,6 +13,7 @@ pub(crate) fn stored(store: &[u32], register: Register) -> u32
     let place = register.store_place();
     match place {
         StorePlace::At(at) => register.kept(store[at]),
+        // Not taken: the register stands in the store.
         StorePlace::Nowhere => 0,
     }
 }
