@@ -40,7 +40,7 @@ const UNREAD: usize = 3;
 const ON_ONE_BACKGROUND: usize = 16;
 
 fn main() -> ExitCode {
-    let seed = std::env::args().nth(1).map_or(20_010_417, |word| word.parse().expect("a seed is a number"));
+    let seed = numbers::seed(std::env::args().nth(1));
     println!("line from Rust: seed {seed}");
     let mut pair = Pair::new();
     let compared = compare_all(&mut pair, &mut Numbers::new(seed));

@@ -3,6 +3,11 @@
 // Each test uses a part of it.
 #![allow(dead_code)]
 
+/// The seed that a word of the command says.
+pub fn seed(word: Option<String>) -> u64 {
+    word.and_then(|word| word.parse().ok()).expect("a word of the command is the seed, a number")
+}
+
 pub struct Numbers(u64);
 
 impl Numbers {

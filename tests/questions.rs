@@ -48,7 +48,7 @@ fn shrunk(entry: u32, depth: u32) -> u32 {
 }
 
 fn main() -> ExitCode {
-    let seed = std::env::args().nth(1).map_or(20_010_417, |word| word.parse().expect("a seed is a number"));
+    let seed = numbers::seed(std::env::args().nth(1));
     println!("questions from Rust: seed {seed}");
     let mut asked = Asked::default();
     let compared = compare_all(&mut asked, &mut Numbers::new(seed));

@@ -48,7 +48,7 @@ const PIECES: [usize; 6] = [1, 2, 3, 7, 4096, 65_536];
 fn main() -> ExitCode {
     let mut words = std::env::args().skip(1);
     let path = words.next().expect("the first word is the program's path");
-    let seed = words.next().map_or(20_010_417, |word| word.parse().expect("a seed is a number"));
+    let seed = numbers::seed(words.next());
     println!("sessions: seed {seed}");
     let program = Program::new(Path::new(&path), Path::new("target/tests/sessions")).expect("the program is there");
     let mut pair = Pair::new(program);
