@@ -1,6 +1,6 @@
-// The two questions that C asks: plain numbers in, a plain number out.
+// The two questions that C asks, and the version of what it calls: plain numbers in, a plain number out.
 ghost use mathlib.Core.Path.{_≡_};
-ghost use Rattle.c_questions.specs.Questions.{entryDefined, signalHolds};
+ghost use Rattle.c_questions.specs.Questions.{entryDefined, signalHolds, interfaceVersion};
 use c_numbers::yes_no;
 use line_colour::entry::Decoded;
 
@@ -22,4 +22,12 @@ pub extern "C" fn bulitampaw_signal_holds(on: u32, off: u32, p: u32) -> u32
     ensures { λ r. ⌜ r ≡ signalHolds on off p ⌝ }
 {
     yes_no(chip_timing::in_window(on, off, p))
+}
+
+// The version of the header that this library goes with. The name has the number too, so that another version's header and this library don't link.
+#[no_mangle]
+pub extern "C" fn bulitampaw_version_1() -> u32
+    ensures { λ r. ⌜ r ≡ interfaceVersion ⌝ }
+{
+    1
 }
