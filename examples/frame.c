@@ -23,17 +23,12 @@ typedef struct {
     uint8_t table[520];
 } chip;
 
-/* Two fields of a control word: one in the low half, one in the high. */
-static uint32_t both(uint32_t low, uint32_t high)
-{
-    return low | high << 16;
-}
-
 /* Says what a call was refused for, and ends: nothing here should be. */
 static void expect_done(bulitampaw_refusal refusal, const char *what)
 {
     if (refusal.number != BULITAMPAW_DONE) {
-        fprintf(stderr, "%s: refused by %u at %u\n", what, (unsigned)refusal.number, (unsigned)refusal.place);
+        fprintf(stderr, "%s: refused by %u at %u: %s\n", what, (unsigned)refusal.number, (unsigned)refusal.place,
+            bulitampaw_refusal_name(refusal.number));
         exit(1);
     }
 }
@@ -63,13 +58,13 @@ static unsigned long send_colour(chip *c, uint32_t entry, uint32_t colour)
 /* The mode. Sync comes first on each line and in each frame, then a porch, the picture, and a porch; all but the picture is blanked. */
 static void set_mode(chip *c)
 {
-    set(c, BULITAMPAW_CONTROL_AT, 1, both(TOTAL_WIDTH - 1, TOTAL_LINES - 1));
-    set(c, BULITAMPAW_CONTROL_AT, 2, both(0, 144));
-    set(c, BULITAMPAW_CONTROL_AT, 3, both(0, 3));
-    set(c, BULITAMPAW_CONTROL_AT, 4, both(ORIGIN_X + WIDTH, ORIGIN_X));
-    set(c, BULITAMPAW_CONTROL_AT, 5, both(ORIGIN_Y + HEIGHT, ORIGIN_Y));
-    set(c, BULITAMPAW_CONTROL_AT, 6, both(ORIGIN_X, ORIGIN_Y));
-    set(c, BULITAMPAW_CONTROL_AT, 7, both(WIDTH - 1, HEIGHT - 1));
+    set(c, BULITAMPAW_CONTROL_AT, 1, bulitampaw_two_fields(TOTAL_WIDTH - 1, TOTAL_LINES - 1));
+    set(c, BULITAMPAW_CONTROL_AT, 2, bulitampaw_two_fields(0, 144));
+    set(c, BULITAMPAW_CONTROL_AT, 3, bulitampaw_two_fields(0, 3));
+    set(c, BULITAMPAW_CONTROL_AT, 4, bulitampaw_two_fields(ORIGIN_X + WIDTH, ORIGIN_X));
+    set(c, BULITAMPAW_CONTROL_AT, 5, bulitampaw_two_fields(ORIGIN_Y + HEIGHT, ORIGIN_Y));
+    set(c, BULITAMPAW_CONTROL_AT, 6, bulitampaw_two_fields(ORIGIN_X, ORIGIN_Y));
+    set(c, BULITAMPAW_CONTROL_AT, 7, bulitampaw_two_fields(WIDTH - 1, HEIGHT - 1));
     set(c, BULITAMPAW_CONTROL_AT, 0, 1 | 2 | 4); /* overlay, window IDs and cursor on, depth 16 */
 }
 
@@ -128,7 +123,7 @@ static void set_cursor(chip *c)
     }
     set(c, BULITAMPAW_CURSOR_COLOURS_AT, 0, 0xffd040);
     set(c, BULITAMPAW_CURSOR_COLOURS_AT, 1, 0x202020);
-    set(c, BULITAMPAW_CONTROL_AT, 8, both(612, 470));
+    set(c, BULITAMPAW_CONTROL_AT, 8, bulitampaw_two_fields(612, 470));
 }
 
 /* The colours of chart and overlay, through the queue. Answers how many dots ran meanwhile. */

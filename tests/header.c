@@ -1,5 +1,14 @@
-/* The header's numbers and layouts, held to the paper's and to how the library lays its answers out. */
+/* The header's numbers, layouts, names and helpers, held to the paper's and to how the library lays its answers out. */
+#include <string.h>
+
 #include "caller.h"
+
+/* The header's version is the library's. */
+static void version(void) {
+    same("the header's version", BULITAMPAW_VERSION, 1);
+    same("the library's version", bulitampaw_version_1(), 1);
+    same("the library's version by the header's number", BULITAMPAW_LIBRARY_VERSION(), BULITAMPAW_VERSION);
+}
 
 static void refusals(void) {
     same("done", BULITAMPAW_DONE, 0);
@@ -79,14 +88,95 @@ static void layouts(void) {
     same("its text", offsetof(bulitampaw_stepped, text), 600);
     same("its refusal", offsetof(bulitampaw_stepped, refusal), 608);
     same("what it comes to", offsetof(bulitampaw_stepped, status), 616);
+    same("a position", sizeof(bulitampaw_position), 2 * 4);
+    same("a waiting write", sizeof(bulitampaw_waiting), 2 * 4);
+    same("a queue", sizeof(bulitampaw_queue), 4 + 64 * 8);
+    same("a refusal", sizeof(bulitampaw_refusal), 2 * 4);
+    same("signals", sizeof(bulitampaw_signals), 4 * 4);
+    same("a write's answer", sizeof(bulitampaw_written), 560 + 8);
+    same("a read's answer", sizeof(bulitampaw_read_back), 560 + 8 + 4);
+    same("a step's answer", sizeof(bulitampaw_stepped), 592 + 8 + 8 + 8 + 4 + 4);
+}
+
+/* Every number from 0 to the last has a name of its own, and all others share one. */
+static void all_named(const char *what, const char *(*name)(uint32_t), uint32_t numbers) {
+    static const uint32_t others[] = {0x100, 0x10000, 0x7FFFFFFF, 0x80000000u, 0xFFFFFFFFu};
+    for (uint32_t number = 0; number <= numbers; number++) {
+        same(what, strlen(name(number)) > 0, 1);
+        for (uint32_t before = 0; before < number; before++)
+            same(what, strcmp(name(number), name(before)) != 0, 1);
+    }
+    for (size_t other = 0; other < sizeof others / sizeof *others; other++)
+        same(what, strcmp(name(others[other]), name(numbers)) != 0, 0);
+}
+
+static void names(void) {
+    all_named("a refusal's name", bulitampaw_refusal_name, 15);
+    all_named("a status's name", bulitampaw_status_name, 5);
+    same("no refusal by name", strcmp(bulitampaw_refusal_name(0), "done") != 0, 0);
+    same("a full queue by name", strcmp(bulitampaw_refusal_name(4), "the queue is full") != 0, 0);
+    same("an undefined entry by name", strcmp(bulitampaw_refusal_name(9), "an undefined window entry") != 0, 0);
+    same("too much by name", strcmp(bulitampaw_refusal_name(14), "too much in the file") != 0, 0);
+    same("another number by name", strcmp(bulitampaw_refusal_name(15), "not a refusal number") != 0, 0);
+    same("the end by name", strcmp(bulitampaw_status_name(2), "the end") != 0, 0);
+}
+
+/* A word of two fields is taken by every control word that has two; a field that is too wide is refused. */
+static void two_fields(void) {
+    static uint32_t store[BULITAMPAW_STORE_WORDS];
+    bulitampaw_state state = bulitampaw_fresh();
+    same("no fields", bulitampaw_two_fields(0, 0), 0);
+    same("two fields", bulitampaw_two_fields(0x123, 0xABC), 0x0ABC0123);
+    same("the widest", bulitampaw_two_fields(0xFFFF, 0xFFFF), 0xFFFFFFFFu);
+    for (uint32_t word = 1; word <= 8; word++) {
+        const uint32_t widest = word == 7 ? 0x7FF : 0xFFF, address = BULITAMPAW_CONTROL_AT + 4 * word;
+        const bulitampaw_state *const unchanged = &state;
+        uint32_t read = 0;
+        same("fields that fit", bulitampaw_state_write(&state, store, address, bulitampaw_two_fields(widest, widest)).number, BULITAMPAW_DONE);
+        same("a low field too wide", bulitampaw_state_write(&state, store, address, bulitampaw_two_fields(widest + 1, 0)).number, BULITAMPAW_STRAY_BITS);
+        same("a high field too wide", bulitampaw_state_write(&state, store, address, bulitampaw_two_fields(0, widest + 1)).number, BULITAMPAW_STRAY_BITS);
+        same("a control word", bulitampaw_state_read(unchanged, store, address, &read).number, BULITAMPAW_DONE);
+        same("its fields", read, widest << 16 | widest);
+    }
+}
+
+/* A session is begun in rooms that hold anything, and begun anew where another has run: only the store becomes zero. */
+static void begin(void) {
+    static const uint8_t old = 0xEE, gamma_and_row[] = {1, 0, 8, 0, 3, 0, 0, 0, 0, 0, 7, 4, 0, 2, 1, 2};
+    static bulitampaw_rooms rooms, wanted;
+    bulitampaw_session session;
+    size_t place = 0;
+    memset(&session, old, sizeof session);
+    memset(&rooms, old, sizeof rooms);
+    memset(&wanted, old, sizeof wanted);
+    memset(wanted.store, 0, sizeof wanted.store);
+    bulitampaw_session_begin(&session, &rooms);
+    same("the rooms at first", memcmp(&rooms, &wanted, sizeof rooms) != 0, 0);
+    same("a write", bulitampaw_session_step(&session, &rooms, gamma_and_row, sizeof gamma_and_row, &place, 0).status, BULITAMPAW_STATUS_LISTED);
+    same("a row", bulitampaw_session_step(&session, &rooms, gamma_and_row, sizeof gamma_and_row, &place, 0).status, BULITAMPAW_STATUS_LISTED);
+    same("a word of the store", rooms.store[32 + 4608], 7);
+    same("the row that is held", session.normal, 2);
+    bulitampaw_session_begin(&session, &rooms);
+    same("that word then", rooms.store[32 + 4608], 0);
+    same("what is held of table and rows", session.table + session.normal + session.overlay, 0);
+    same("the records before the first", session.records, 0);
+    same("the row's room", rooms.normal[0], 1);
+    for (size_t word = 0; word < BULITAMPAW_CONTROL_WORDS; word++)
+        same("a control word at first", session.state.control[word], 0);
+    same("the beam at first", session.state.at.x + session.state.at.y, 0);
+    same("what waits at first", session.state.queue.waiting, 0);
 }
 
 int main(void) {
+    version();
     refusals();
     places();
     registers();
     lengths();
     statuses();
     layouts();
+    names();
+    two_fields();
+    begin();
     return finished("header");
 }

@@ -50,6 +50,7 @@ extern "C" {
     ) -> Stepped;
     fn bulitampaw_entry_defined(entry: u32, depth: u32) -> u32;
     fn bulitampaw_signal_holds(on: u32, off: u32, p: u32) -> u32;
+    fn bulitampaw_version_1() -> u32;
 }
 
 pub fn fresh() -> State {
@@ -148,4 +149,9 @@ pub fn entry_defined(entry: u32, depth: u32) -> u32 {
 pub fn signal_holds(on: u32, off: u32, p: u32) -> u32 {
     // SAFETY: as above.
     unsafe { bulitampaw_signal_holds(on, off, p) }
+}
+
+pub fn version() -> u32 {
+    // SAFETY: as above.
+    unsafe { bulitampaw_version_1() }
 }

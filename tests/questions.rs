@@ -66,6 +66,9 @@ fn main() -> ExitCode {
 }
 
 fn compare_all(asked: &mut Asked, numbers: &mut Numbers) -> Result<(), String> {
+    if library::version() != 1 {
+        return Err(format!("the version is {}\n", library::version()));
+    }
     for entry in 0..8192 {
         for depth in 0..=64 {
             asked.entry(entry, depth)?;
