@@ -1,7 +1,8 @@
 /* Bulitampaw: a model of the GBE display back end, for emulators written in C. Link libbulitampaw.a.
 
-   The header is for C99, and for C++98 and later. The library is for x86-64 Linux: the System V calling convention, little-endian words, 8 bytes to a
-   pointer. Where this header is compiled the sizes of all structs that the library knows are checked; where a program is linked, the version is.
+   The header is for C99, and for C++98 and later. The library is for x86-64 Linux: the System V calling convention, little-endian words, pointers of 8 bytes.
+   Of the C library it calls memcpy, memmove and memset alone. Where this header is compiled the sizes of all structs that the library knows are checked; where
+   a program is linked, the version is.
 
    Each call is lent what it works on for as long as it runs, and keeps nothing of it: the caller holds state and memory, and there is nothing global.
    So calls may be made from several threads at once, where none of them is lent to change what another is lent too.
@@ -122,7 +123,8 @@ enum {
    512 * block + 2 * offset, and ends with that block of 512 bytes or with the table (CHIP 4.5). The first line entry with a last pixel of x or more serves
    pixel x (CHIP 4.7). */
 
-/* The formats of a normal pixel (CHIP 5.2). It is big-endian; its low half is buffer 0 and its high half buffer 1; the low bits of half or whole are used.
+/* The formats of a normal pixel (CHIP 5.2). It is big-endian. Its low half is buffer 0, its high half buffer 1, and of half or whole the low bits are used
+   (CHIP 5.3).
 
        format       bits   depth 16          depth 32          what the bits are (CHIP 5.5, 5.6)
        0 index         8   a half            a half            entry 256 * bank + bits of the colour map, bank 0 to 17
@@ -151,7 +153,7 @@ enum {
        0 end       0                                    nothing
        1 write     address and value, 4 each            ok
        2 dots      a count, 4, of 16,777,216 at most    at x y: where the beam then is
-       3 table     any, in all 65,536                   ok: they are put behind those before them
+       3 table     any, 65,536 in all at most           ok: they are put behind those before them
        4 normal    8,192 at most                        ok: the row stays until the next comes
        5 overlay   2,048 at most                        ok: likewise
        6 line      y, 2                                 line y, and then a line for each pixel: six hex digits
@@ -345,7 +347,8 @@ typedef struct {
     size_t table_length, normal_length, overlay_length;
 } bulitampaw_planes;
 
-/* All that a step is lent to change. Before the first record the store is all zero, and the others hold anything: bulitampaw_session_begin sees to that. */
+/* All that a step is lent to change, some 118,000 bytes. Before the first record the store is all zero, and the others hold anything:
+   bulitampaw_session_begin sees to that. */
 typedef struct {
     uint32_t store[BULITAMPAW_STORE_WORDS];
     uint8_t table[BULITAMPAW_TABLE_BYTES];

@@ -98,27 +98,23 @@ static void layouts(void) {
     same("a step's answer", sizeof(bulitampaw_stepped), 592 + 8 + 8 + 8 + 4 + 4);
 }
 
-/* Every number from 0 to the last has a name of its own, and all others share one. */
-static void all_named(const char *what, const char *(*name)(uint32_t), uint32_t numbers) {
+/* The names of the numbers from 0 on, of which the last is that of every other number too. */
+static void named(const char *what, const char *(*name)(uint32_t), const char *const *names, uint32_t count) {
     static const uint32_t others[] = {0x100, 0x10000, 0x7FFFFFFF, 0x80000000u, 0xFFFFFFFFu};
-    for (uint32_t number = 0; number <= numbers; number++) {
-        same(what, strlen(name(number)) > 0, 1);
-        for (uint32_t before = 0; before < number; before++)
-            same(what, strcmp(name(number), name(before)) != 0, 1);
-    }
+    for (uint32_t number = 0; number < count; number++)
+        same(what, strcmp(name(number), names[number]) != 0, 0);
     for (size_t other = 0; other < sizeof others / sizeof *others; other++)
-        same(what, strcmp(name(others[other]), name(numbers)) != 0, 0);
+        same(what, strcmp(name(others[other]), names[count - 1]) != 0, 0);
 }
 
 static void names(void) {
-    all_named("a refusal's name", bulitampaw_refusal_name, 15);
-    all_named("a status's name", bulitampaw_status_name, 5);
-    same("no refusal by name", strcmp(bulitampaw_refusal_name(0), "done") != 0, 0);
-    same("a full queue by name", strcmp(bulitampaw_refusal_name(4), "the queue is full") != 0, 0);
-    same("an undefined entry by name", strcmp(bulitampaw_refusal_name(9), "an undefined window entry") != 0, 0);
-    same("too much by name", strcmp(bulitampaw_refusal_name(14), "too much in the file") != 0, 0);
-    same("another number by name", strcmp(bulitampaw_refusal_name(15), "not a refusal number") != 0, 0);
-    same("the end by name", strcmp(bulitampaw_status_name(2), "the end") != 0, 0);
+    static const char *const of_refusals[] = {"done", "no register at the address", "a word that can only be read", "bits that are not kept",
+        "the queue is full", "a wrong length", "no such line", "no frame entry serves the line", "no line entry serves a pixel",
+        "an undefined window entry", "the picture passes the total", "a bad state", "a wrong record", "the file ends too soon", "too much in the file",
+        "not a refusal number"};
+    static const char *const of_statuses[] = {"refused", "listed", "the end", "more bytes are needed", "stopped by a fault of the file", "not a status"};
+    named("a refusal's name", bulitampaw_refusal_name, of_refusals, 16);
+    named("a status's name", bulitampaw_status_name, of_statuses, 6);
 }
 
 /* A word of two fields is taken by every control word that has two; a field that is too wide is refused. */
