@@ -5,7 +5,7 @@
 
 #include "caller.h"
 
-enum { THREADS = 4, TIMES = 5, ROUNDS = 300, TURNS = 10, WIDTH = 96 };
+enum { THREADS = 4, TIMES = 3, ROUNDS = 200, TURNS = 10, WIDTH = 96 };
 
 /* What one thread works on, and a sum over all that it was answered. */
 typedef struct {
