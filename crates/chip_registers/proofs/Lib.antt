@@ -3,4 +3,7 @@ pub mod Naming
 pub mod Kept
 pub mod Store
 pub mod Access
+pub mod Map
+pub mod Fields
+pub mod Apart
 pub mod Unique
