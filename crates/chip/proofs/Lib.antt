@@ -6,4 +6,7 @@ pub mod Runs
 pub mod Writes
 pub mod Readings
 pub mod Shown
+pub mod Accepted
+pub mod PutShown
+pub mod WriteThenRead
 pub mod Unique
