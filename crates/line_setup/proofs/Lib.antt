@@ -1,4 +1,5 @@
 pub mod Numbers
 pub mod Lengths
 pub mod Fitted
+pub mod KeptFields
 pub mod Unique
