@@ -1,6 +1,10 @@
 pub mod Rows
 pub mod Gamma
 pub mod CursorCases
+pub mod CursorShows
+pub mod CellsInMemory
 pub mod LayersCases
+pub mod PixelShows
+pub mod GammaReads
 pub mod Below
 pub mod Unique
