@@ -1,13 +1,19 @@
--- The tests of the decoder, one after another: what each says of what an entry is. Assumes nothing.
+-- The tests of the decoder, one after another: what each says of what an entry is, and that a defined entry passes all. Assumes nothing.
 use Prim.Native.Nat.{ℕ}
-use mathlib.Core.Path.{_≡_, sym}
-use mathlib.Core.Bool.{true, false}
-use borrow.Author.Tests.{eq-eqb, ne-eqb}
+use mathlib.Core.Path.{_≡_, refl, sym}
+use mathlib.Core.Bool.{Bool, true, false, cond, not}
+use borrow.Author.Tests.{eqb-true, eq-eqb, ne-eqb}
+use lib.Dec.{eqb}
+use Rattle.rules.proofs.Cases.{impossible}
 use Rattle.words.specs.Field.{field}
 use Rattle.line_formats.specs.Table.{formatOfNumber, partAt, hasDepth, hasBuffer, hasBank}
 use Rattle.line_formats.specs.declared.Format.{Format}
+use Rattle.line_formats.specs.declared.NamedFormat.{NamedFormat}
 use Rattle.line_formats.specs.declared.NamedFormat.the-variants.{Is, Undefined as NoFormat}
-use Rattle.line_colour.specs.Entry.{definedAs, decoded}
+use Rattle.line_formats.proofs.FormatListed.{FormatHas}
+use Rattle.line_colour.specs.Entry.{definedAs, withFormat, decoded}
+use Rattle.line_colour.specs.declared.entry.WindowEntry.{WindowEntry}
+use Rattle.line_colour.specs.declared.entry.Decoded.{Decoded}
 use Rattle.line_colour.specs.declared.entry.Decoded.the-variants.{Defined, Undefined}
 
 module _ (entry depth : ℕ) where
@@ -44,3 +50,45 @@ module _ (entry depth : ℕ) where
           pub is-defined : true ≡ hasBank format (field entry 8 4) → Defined (definedAs entry depth format) ≡ decoded entry depth
           unfolding decoded
           is-defined in-bank = sym (rw (eq-eqb (field entry 12 11) 0 clear, named, ← at-depth, ← in-buffer, ← in-bank))
+
+-- an entry passes every test, and this is what it says
+pub record Passed (number depth : ℕ) (entry : WindowEntry) : Type 0 where
+  pub clear : field number 12 11 ≡ 0
+  pub has : FormatHas (field number 3 1) depth (field number 0 0) (field number 8 4)
+  pub is : definedAs number depth (has .format) ≡ entry
+
+-- the tests that follow the format
+abbrev tested : ℕ → ℕ → Format → Decoded
+tested number depth format =
+    cond (not (hasDepth (partAt format depth))) Undefined
+    (cond (not (hasBuffer (partAt format depth) (field number 0 0))) Undefined
+    (cond (not (hasBank format (field number 8 4))) Undefined (Defined (definedAs number depth format))))
+
+module _ (number depth : ℕ) {entry : WindowEntry} where
+  module _ (clear : field number 12 11 ≡ 0) where
+    -- where an entry is defined by the tests of depth, buffer and bank, all three pass
+    passed-by : (format : Format) → formatOfNumber (field number 3 1) ≡ Is format → (a b c : Bool)
+        → hasDepth (partAt format depth) ≡ a → hasBuffer (partAt format depth) (field number 0 0) ≡ b → hasBank format (field number 8 4) ≡ c
+        → cond (not a) Undefined (cond (not b) Undefined (cond (not c) Undefined (Defined (definedAs number depth format)))) ≡ Defined entry → Passed number depth entry
+    passed-by format named true true true a b c e =
+        record { clear = clear; has = record { format = format; named = named; at-depth = a; in-buffer = b; in-bank = c }; is = cc }
+    passed-by format named true true false a b c e = impossible (cc)
+    passed-by format named true false c a b h e = impossible (cc)
+    passed-by format named false b c a h g e = impossible (cc)
+
+    -- where an entry is defined, its number names a format
+    passed-as : (name : NamedFormat) → formatOfNumber (field number 3 1) ≡ name → withFormat name (tested number depth) ≡ Defined entry → Passed number depth entry
+    passed-as NoFormat named e = impossible (cc)
+    passed-as (Is format) named e =
+        passed-by format named (hasDepth (partAt format depth)) (hasBuffer (partAt format depth) (field number 0 0)) (hasBank format (field number 8 4)) refl refl refl e
+
+  -- a defined entry passes every test
+  pub defined-passed : decoded number depth ≡ Defined entry → Passed number depth entry
+  unfolding decoded
+  defined-passed e = by (eqb (field number 12 11) 0) refl e
+    where
+      -- its spare bits are clear
+      by : (clear : Bool) → eqb (field number 12 11) 0 ≡ clear → cond (not clear) Undefined (withFormat (formatOfNumber (field number 3 1)) (tested number depth)) ≡ Defined entry
+          → Passed number depth entry
+      by true clear e = passed-as (eqb-true (field number 12 11) 0 clear) (formatOfNumber (field number 3 1)) refl e
+      by false clear e = impossible (cc)

@@ -1,27 +1,26 @@
 -- What holds of every defined entry: its depth is listed, its sample lies within the pixel, and it shows no map entry past the last. Assumes nothing.
 use Prim.Native.Nat.{ℕ, _+_, _*_, _/_, _≤_, _<_}
 use mathlib.Core.Path.{_≡_, refl}
-use mathlib.Core.Bool.{Bool, true, false, cond, not}
-use mathlib.Core.Logic.{_⊎_, inl, inr, ⊎-elim}
+use mathlib.Core.Bool.{Bool, true, false, cond}
+use mathlib.Core.Logic.{_⊎_, ⊎-elim}
 use native.Mathlib.Omega.{arith}
 use native.Mathlib.Nat.{mod-lt}
-use borrow.Author.Tests.{eqb-true, leb-true}
+use borrow.Author.Tests.{leb-true}
 use lib.Dec.{eqb, leb, lit<}
 use Rattle.rules.proofs.Cases.{impossible}
 use Rattle.words.specs.Field.{field}
-use Rattle.line_formats.specs.Table.{widthsOf, formatOfNumber, formatRow, partAt, hasDepth, hasBuffer, hasBank, valueOf, entryInBank}
+use Rattle.line_formats.specs.Table.{widthsOf, partAt, hasBuffer, hasBank, valueOf, entryInBank}
 use Rattle.line_formats.specs.declared.Format.{Format}
 use Rattle.line_formats.specs.declared.Format.the-variants.{Index8, Index12, Rgb332, Rgb444, Rgb555, Rgb888}
-use Rattle.line_formats.specs.declared.NamedFormat.{NamedFormat}
-use Rattle.line_formats.specs.declared.NamedFormat.the-variants.{Is, Undefined as NoFormat}
 use Rattle.line_formats.specs.declared.Part.the-variants.{Half, Whole, Unlisted}
 use Rattle.line_formats.proofs.Fitting.{part-fitting}
-use Rattle.line_colour.specs.Entry.{lowOf, definedAs, withFormat, decoded}
+use Rattle.line_formats.proofs.FormatListed.{depths}
+use Rattle.line_colour.specs.Entry.{lowOf, decoded}
 use Rattle.line_colour.specs.Shown.{shownAs, shownOf}
 use Rattle.line_colour.specs.declared.entry.WindowEntry.{WindowEntry}
-use Rattle.line_colour.specs.declared.entry.Decoded.{Decoded}
-use Rattle.line_colour.specs.declared.entry.Decoded.the-variants.{Defined, Undefined}
+use Rattle.line_colour.specs.declared.entry.Decoded.the-variants.{Defined}
 use Rattle.line_colour.specs.declared.entry.Shown.the-variants.{MapEntry}
+use Rattle.line_colour.proofs.Decode.{defined-passed}
 
 -- what a defined entry says fits its depth
 pub record Says (depth : ℕ) (entry : WindowEntry) : Type 0 where
@@ -55,18 +54,6 @@ module _ (depth buffer : ℕ) where
   within-by bits false true h w e = omega (arith, low-of-0 e, leb-true bits depth w)
   within-by bits false false h w e = impossible (cc)
 
-  -- a depth that is listed by a test for 16 and then one for 32 is one of the two
-  depth-by : (format : Format) (is16 is32 : Bool) → eqb depth 16 ≡ is16 → eqb depth 32 ≡ is32
-      → hasDepth (cond is16 (formatRow format .at16) (cond is32 (formatRow format .at32) Unlisted)) ≡ true → (depth ≡ 16) ⊎ (depth ≡ 32)
-  depth-by format true is32 h w e = inl (eqb-true depth 16 h)
-  depth-by format false true h w e = inr (eqb-true depth 32 w)
-  depth-by format false false h w e = impossible (cc)
-
-  -- a format has no depth but 16 and 32
-  depths : (format : Format) → hasDepth (partAt format depth) ≡ true → (depth ≡ 16) ⊎ (depth ≡ 32)
-  unfolding partAt
-  depths format e = depth-by format (eqb depth 16) (eqb depth 32) refl refl e
-
   -- from the lowest bit of a buffer that a format has, its bits lie within the pixel
   lies-within : (format : Format) → (depth ≡ 16) ⊎ (depth ≡ 32) → hasBuffer (partAt format depth) buffer ≡ true
       → lowOf depth buffer + widthsOf format .bits ≤ depth
@@ -74,41 +61,19 @@ module _ (depth buffer : ℕ) where
       let bits = widthsOf format .bits in
       within-by bits (leb bits (depth / 2)) (leb bits depth) refl refl (rw (part-fitting format depth at) at e)
 
-module _ (number depth : ℕ) where
-  -- where an entry is defined by the tests of depth, buffer and bank, all three pass, and what it says fits its depth
-  says-by : (format : Format) {entry : WindowEntry} (a b c : Bool)
-      → hasDepth (partAt format depth) ≡ a → hasBuffer (partAt format depth) (field number 0 0) ≡ b → hasBank format (field number 8 4) ≡ c
-      → cond (not a) Undefined (cond (not b) Undefined (cond (not c) Undefined (Defined (definedAs number depth format)))) ≡ Defined entry → Says depth entry
-  says-by format {entry} true true true a b c e =
-      let same : definedAs number depth format ≡ entry = cc in
-      let at = depths depth 0 format a in
-      rw (← same) (record { at-depth = at; low-lt = low-lt-32 depth (field number 0 0) at; within = lies-within depth (field number 0 0) format at b; in-bank = c })
-  says-by format {entry} true true false a b c e = impossible (cc)
-  says-by format {entry} true false c a b h e = impossible (cc)
-  says-by format {entry} false b c a h g e = impossible (cc)
-
-  -- the tests that follow the format
-  abbrev tested : Format → Decoded
-  tested format =
-      cond (not (hasDepth (partAt format depth))) Undefined
-      (cond (not (hasBuffer (partAt format depth) (field number 0 0))) Undefined
-      (cond (not (hasBank format (field number 8 4))) Undefined (Defined (definedAs number depth format))))
-
-  -- where an entry is defined, its number names a format, and what it says fits its depth
-  says-as : {entry : WindowEntry} (named : NamedFormat) → withFormat named tested ≡ Defined entry → Says depth entry
-  says-as {entry} NoFormat e = impossible (cc)
-  says-as {entry} (Is format) e =
-      says-by format (hasDepth (partAt format depth)) (hasBuffer (partAt format depth) (field number 0 0)) (hasBank format (field number 8 4)) refl refl refl e
-
-  -- where an entry is defined, its spare bits are clear, and what it says fits its depth
-  spare-by : {entry : WindowEntry} (clear : Bool) → cond (not clear) Undefined (withFormat (formatOfNumber (field number 3 1)) tested) ≡ Defined entry → Says depth entry
-  spare-by true e = says-as (formatOfNumber (field number 3 1)) e
-  spare-by {entry} false e = impossible (cc)
-
-  -- what the decoder answers as a defined entry fits its depth
-  pub defined-says : {entry : WindowEntry} → decoded number depth ≡ Defined entry → Says depth entry
-  unfolding decoded
-  defined-says e = spare-by (eqb (field number 12 11) 0) e
+-- what the decoder answers as a defined entry fits its depth
+pub defined-says : (number depth : ℕ) {entry : WindowEntry} → decoded number depth ≡ Defined entry → Says depth entry
+defined-says number depth e =
+    let passed = defined-passed number depth e in
+    let format = passed .has .format in
+    let at = depths format depth (passed .has .at-depth) in
+    rw (← passed .is)
+    (record {
+      at-depth = at;
+      low-lt = low-lt-32 depth (field number 0 0) at;
+      within = lies-within depth (field number 0 0) format at (passed .has .in-buffer);
+      in-bank = passed .has .in-bank;
+    })
 
 module _ (bank sample : ℕ) {shown : ℕ} where
   -- under a bank that the format has, a sample shows no map entry past 4,607
