@@ -80,7 +80,7 @@ unfolding idAt
 id-off controls lent tableBytes start p off = rw off refl
 
 -- of a window entry the decoder looks at the kept bits alone
-kept-decoded : (store : List ℕ) (id depth : ℕ) → decoded (stored store (record { block = WindowEntries; word = id })) depth ≡ decoded (getD store id 0) depth
+pub kept-decoded : (store : List ℕ) (id depth : ℕ) → decoded (stored store (record { block = WindowEntries; word = id })) depth ≡ decoded (getD store id 0) depth
 kept-decoded store id depth =
     let kept : stored store (record { block = WindowEntries; word = id }) ≡ getD store id 0 % 2 ^ 13 = rw zero-add (omega arith) in
     rw kept (decoded-kept (getD store id 0) depth)

@@ -4,4 +4,6 @@ pub mod Pass
 pub mod Whole
 pub mod Drawing
 pub mod Result
+pub mod Defects
+pub mod Uncovered
 pub mod Unique
