@@ -16,10 +16,12 @@ use Rattle.chip_registers.specs.declared.Block.the-variants.{WindowEntries, Col
 use Rattle.line_windows.specs.Table.{TableCell}
 use Rattle.line_pixels.specs.Cells.{channelIn, PixelCell, glyph, cursorColour, overlayByte, sample, mapEntry, gamma, pixelWord}
 use Rattle.line_setup.specs.declared.setup.Setup.{Setup}
+use Rattle.line.specs.Screen.{screenIn}
 use Rattle.line.specs.Cells.{ofTable, windowEntry, ofColour, Lent, lentOf, view}
 use Rattle.line.specs.Line.{lineOf}
 use Rattle.line_reads.specs.Listed.{PixelListed, Listed, AgreeOnList}
 use Rattle.line_reads.specs.Hidden.{otherStore, otherTable, otherNormal, otherOverlay, SameChosen, SameHalves, SameUncovered, SameSeen, SameOverlaid, SameFields, SameCounting, SameMet}
+use Rattle.line_reads.proofs.Layers.{shows-some}
 use Rattle.line_reads.proofs.Before.{refused-line-reads}
 use Rattle.line_reads.proofs.AllListed.{listed-reads}
 use Rattle.line_reads.proofs.ByList.{line-rests-on-list}
@@ -68,9 +70,9 @@ module _ (setup : Setup) (lent : Lent) where
         by (overlayByte x) listed = refl
         by (sample depth x low count) listed =
             let at = listed .listed in
-            ap (view lent) (ap ofColour (at .used))
-            ∙ same (listed .pixel) (listed .active) (listed .entry) (listed .has) (at .transparent) (at .overlay-transparent)
-            ∙ ap (view (otherNormal lent row)) (ap ofColour (sym (at .used)))
+            ap (view lent) (ap ofColour (at .1 .used))
+            ∙ same (listed .pixel) (listed .active) (listed .entry) (listed .has) (at .0) (at .1 .overlay-transparent)
+            ∙ ap (view (otherNormal lent row)) (ap ofColour (sym (at .1 .used)))
         by (mapEntry number) listed = refl
         by (gamma channel number) listed = refl
 
@@ -99,14 +101,14 @@ module _ (setup : Setup) (lent : Lent) where
         by (cursorColour number) listed = refl
         by (overlayByte x) listed =
             let at = listed .listed in
-            rw (at .here) (same (listed .pixel) (listed .active) (listed .entry) (listed .has) (at .transparent) (at .counts))
+            rw (at .1 .here) (same (listed .pixel) (listed .active) (listed .entry) (listed .has) (at .0) (at .1 .counts))
         by (sample depth x low count) listed = refl
         by (mapEntry number) listed = refl
         by (gamma channel number) listed = refl
 
     -- where overlay is off, any overlay row has the same outcome
     pub overlay-off : setup .controls .overlay ≡ false → lineOf setup lent ≡ lineOf setup (otherOverlay lent row)
-    overlay-off off = other-overlay (λ x active entry has clear counts. impossible (cc (rw off at counts)))
+    overlay-off off = other-overlay (λ x active entry has clear counts. impossible (cc (counts .on)))
 
   -- ---- the store
 
@@ -123,7 +125,7 @@ module _ (setup : Setup) (lent : Lent) where
             ap (λ (word : ℕ). bits word (30 - 2 * (c % 16)) 2)
             (same (record { block = CursorGlyph; word = 2 * r + c / 16 }) (r, (c, (refl, listed))))
         by (cursorColour number) listed =
-            let above = positive number (λ none. listed .listed .shows (sym (listed .listed .shown) ∙ none)) in
+            let above = positive number (shows-some (λ (c : PixelCell). view lent (ofColour c)) (screenIn setup) (listed .pixel) (listed .listed)) in
             let is : number ≡ suc (number - 1) = omega arith in
             same (record { block = CursorColours; word = number - 1 }) (subst (λ (n : ℕ). PixelListed setup lent (cursorColour n)) is listed)
         by (overlayByte x) listed = refl

@@ -1,5 +1,6 @@
 pub mod Demand
 pub mod Before
+pub mod Layers
 pub mod Colours
 pub mod ListedColours
 pub mod LookUps

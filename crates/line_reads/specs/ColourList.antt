@@ -1,91 +1,108 @@
--- The cells of a pixel's colour under its window entry, as the paper lists them.
-use Prim.Native.Nat.{ℕ, _+_}
+-- The cells of a pixel's colour under its window entry, as the paper lists them, in its own words and numbers: what shows is said without the rule of a pixel.
+use Prim.Native.Nat.{ℕ, _+_, _≤_}
 use mathlib.Core.Path.{_≡_}
-use mathlib.Core.Bool.{Bool, true, false, cond}
+use mathlib.Core.Bool.{true, false}
 use mathlib.Core.Logic.{_⊎_, _≢_}
-use lib.Dec.{eqb}
-use Rattle.rules.specs.Rule.{value}
-use Rattle.words.specs.Channels.{channelsOf}
+use Rattle.words.specs.Channels.{channelsOf, wordOf}
 use Rattle.line_formats.specs.Table.{widthsOf}
 use Rattle.line_colour.specs.Shown.{shownOf}
 use Rattle.line_colour.specs.declared.entry.WindowEntry.{WindowEntry}
-use Rattle.line_colour.specs.declared.entry.Shown.the-variants.{MapEntry}
-use Rattle.line_pixels.specs.Cells.{channelIn, PixelCell, glyph, cursorColour, overlayByte, sample, mapEntry, gamma}
-use Rattle.line_pixels.specs.Cursor.{glyphPlace, inGlyph, cursorAt}
-use Rattle.line_pixels.specs.Colour.{Layer, ofCursor, ofOverlay, ofNormal, skipsGamma, normalAt, overlayColours, overlayCounts, overlayAt}
+use Rattle.line_colour.specs.declared.entry.Shown.{Shown}
+use Rattle.line_colour.specs.declared.entry.Shown.the-variants.{MapEntry, Colour}
+use Rattle.line_pixels.specs.Cells.{Channel, channelIn, PixelCell, glyph, cursorColour, overlayByte, sample, mapEntry, gamma}
 use Rattle.line_pixels.specs.declared.Screen.{Screen}
 
-module _ (memory : PixelCell → ℕ) (screen : Screen) (entry : WindowEntry) (x : ℕ) where
-  -- the cursor colour that shows, by glyph or cross-hair; 0 where the cursor is transparent
-  abbrev pub cursorHere : ℕ
-  cursorHere = value memory (cursorAt screen x)
+-- ---- the cursor
 
-  -- the overlay byte; 0 where overlay is transparent or doesn't count
-  abbrev pub overlayHere : ℕ
-  overlayHere = value memory (overlayAt screen entry x)
+module _ (screen : Screen) (x : ℕ) where
+  -- the pixel's own cell of the glyph, if on and inside: column x + 31 − cx and row y + 31 − cy, both 0 to 31, and no cross-hair
+  pub record GlyphListed (row column : ℕ) : Type 0 where
+    pub on : screen .cursor ≡ true
+    pub no-crosshair : screen .crosshair ≡ false
+    pub at-row : row + screen .cy ≡ screen .y + 31
+    pub row-inside : row ≤ 31
+    pub at-column : column + screen .cx ≡ x + 31
+    pub column-inside : column ≤ 31
+
+  -- the pixel is on the cross-hair, which needs the cursor on: x = cx or y = cy
+  pub record CrossHairHere : Type 0 where
+    pub on : screen .cursor ≡ true
+    pub crosshair : screen .crosshair ≡ true
+    pub meets : (x ≡ screen .cx) ⊎ (screen .y ≡ screen .cy)
+
+module _ (memory : PixelCell → ℕ) (screen : Screen) (x : ℕ) where
+  -- the cursor shows this colour: the number in the pixel's cell of the glyph, or 1 on the cross-hair; 0 is transparent
+  pub data CursorShows (number : ℕ) : Type 0 where
+    by-glyph : (row column : ℕ) → GlyphListed screen x row column → number ≡ memory (glyph row column) → number ≢ 0 → CursorShows number
+    by-crosshair : CrossHairHere screen x → number ≡ 1 → CursorShows number
+
+  -- the cursor is transparent: it shows no colour
+  abbrev pub CursorTransparent : Type 0
+  CursorTransparent = (number : ℕ) → CursorShows number → ⊥
+
+-- ---- overlay
+
+-- overlay counts: both switches are on, the control word's and the window entry's
+pub record BothSwitches (screen : Screen) (entry : WindowEntry) : Type 0 where
+  pub on : screen .overlay ≡ true
+  pub allowed : entry .overlay ≡ true
+
+module _ (memory : PixelCell → ℕ) (screen : Screen) (entry : WindowEntry) (x : ℕ) where
+  -- overlay shows this byte: it counts, and the byte is not 0
+  pub record OverlayShows (byte : ℕ) : Type 0 where
+    pub counts : BothSwitches screen entry
+    pub is : byte ≡ memory (overlayByte x)
+    pub shows : byte ≢ 0
+
+  -- overlay is transparent: where it counts the byte is 0
+  abbrev pub OverlayTransparent : Type 0
+  OverlayTransparent = BothSwitches screen entry → memory (overlayByte x) ≡ 0
+
+  -- ---- below both
 
   -- the used bits of the chosen buffer
   abbrev pub usedCell : PixelCell
   usedCell = sample (screen .depth) x (entry .low) (widthsOf (entry .format) .bits)
 
-  -- the layer that shows: the cursor, else overlay, else the normal one
-  abbrev pub layerHere : Layer
-  layerHere = cond (eqb cursorHere 0) (cond (eqb overlayHere 0) ofNormal ofOverlay) ofCursor
+  -- the word of what a sample shows: the map entry that it hits, or a colour of its own
+  abbrev pub wordShown : Shown → ℕ
+  wordShown (MapEntry number) = memory (mapEntry number)
+  wordShown (Colour colour) = wordOf colour
 
-  -- the colour of a layer before gamma
-  abbrev pub colourOfLayer : Layer → ℕ
-  colourOfLayer ofCursor = memory (cursorColour cursorHere)
-  colourOfLayer ofOverlay = memory (mapEntry (overlayColours + overlayHere))
-  colourOfLayer ofNormal = value memory (normalAt (screen .depth) entry x)
+  -- the colour under the cursor before gamma: map entry 4,352 + byte where overlay shows, else the normal one
+  pub data BeforeGamma (colour : ℕ) : Type 0 where
+    of-overlay : (byte : ℕ) → OverlayShows byte → colour ≡ memory (mapEntry (4352 + byte)) → BeforeGamma colour
+    of-sample : OverlayTransparent → colour ≡ wordShown (shownOf entry (memory usedCell)) → BeforeGamma colour
 
-  -- the colour before gamma, of the layer that shows
-  abbrev pub beforeGamma : ℕ
-  beforeGamma = colourOfLayer layerHere
+  -- ---- the list
 
-  -- whether it skips gamma
-  abbrev pub skipsHere : Bool
-  skipsHere = skipsGamma screen entry layerHere
-
-  -- the pixel's own cell of the glyph
-  pub record GlyphListed (row column : ℕ) : Type 0 where
-    pub on : screen .cursor ≡ true
-    pub no-crosshair : screen .crosshair ≡ false
-    pub inside : inGlyph screen x ≡ true
-    pub at-row : row ≡ glyphPlace (screen .cy) (screen .y)
-    pub at-column : column ≡ glyphPlace (screen .cx) x
-
-  -- the cursor colour shown
-  pub record CursorColourListed (number : ℕ) : Type 0 where
-    pub shows : cursorHere ≢ 0
-    pub shown : number ≡ cursorHere
-
-  -- the pixel's overlay byte
+  -- the pixel's overlay byte, where it counts
   pub record OverlayListed (pixel : ℕ) : Type 0 where
-    pub transparent : cursorHere ≡ 0
-    pub counts : overlayCounts screen entry ≡ true
+    pub counts : BothSwitches screen entry
     pub here : pixel ≡ x
 
-  -- the used bits of the pixel's sample
+  -- the used bits of the pixel's sample, where overlay is transparent
   pub record SampleListed (cell : PixelCell) : Type 0 where
-    pub transparent : cursorHere ≡ 0
-    pub overlay-transparent : overlayHere ≡ 0
+    pub overlay-transparent : OverlayTransparent
     pub used : cell ≡ usedCell
 
-  -- the map entry that overlay or the sample hits
-  pub record MapListed (number : ℕ) : Type 0 where
-    pub transparent : cursorHere ≡ 0
-    pub hit : ((overlayHere ≢ 0) × (number ≡ overlayColours + overlayHere)) ⊎ ((overlayHere ≡ 0) × (shownOf entry (memory usedCell) ≡ MapEntry number))
+  -- the map entry hit, by overlay or by the sample
+  pub data MapListed (number : ℕ) : Type 0 where
+    by-overlay : (byte : ℕ) → OverlayShows byte → number ≡ 4352 + byte → MapListed number
+    by-sample : OverlayTransparent → shownOf entry (memory usedCell) ≡ MapEntry number → MapListed number
 
-  -- where the colour goes through gamma, the gamma word that a channel of it hits, of which that channel's byte counts
-  pub record GammaListed (indexed number : ℕ) : Type 0 where
-    pub through : skipsHere ≡ false
-    pub hit : number ≡ indexed
+  -- a channel's byte of the gamma word that this channel of the colour indexes, where the window entry doesn't bypass gamma
+  pub record GammaListed (channel : Channel) (number : ℕ) : Type 0 where
+    pub through : entry .bypass ≡ false
+    pub colour : ℕ
+    pub before : BeforeGamma colour
+    pub hit : number ≡ channelIn channel (channelsOf colour)
 
-  -- the cells of one pixel's colour
+  -- the cells of one pixel's colour; those under the cursor where it is transparent
   abbrev pub ColourListed : PixelCell → Type 0
-  ColourListed (glyph row column) = GlyphListed row column
-  ColourListed (cursorColour number) = CursorColourListed number
-  ColourListed (overlayByte pixel) = OverlayListed pixel
-  ColourListed (sample depth pixel low count) = SampleListed (sample depth pixel low count)
-  ColourListed (mapEntry number) = MapListed number
-  ColourListed (gamma channel number) = GammaListed (channelIn channel (channelsOf beforeGamma)) number
+  ColourListed (glyph row column) = GlyphListed screen x row column
+  ColourListed (cursorColour number) = CursorShows memory screen x number
+  ColourListed (overlayByte pixel) = CursorTransparent memory screen x × OverlayListed pixel
+  ColourListed (sample depth pixel low count) = CursorTransparent memory screen x × SampleListed (sample depth pixel low count)
+  ColourListed (mapEntry number) = CursorTransparent memory screen x × MapListed number
+  ColourListed (gamma channel number) = CursorTransparent memory screen x × GammaListed channel number

@@ -1,7 +1,6 @@
 -- What may be otherwise without a line's answer being so.
 use Prim.Native.Nat.{ℕ, suc, _+_, _*_, _/_, _≤_, _<_}
 use mathlib.Core.Path.{_≡_}
-use mathlib.Core.Bool.{true}
 use mathlib.Core.List.{List}
 use lib.ListN.{getD}
 use Rattle.words.specs.Field.{bits}
@@ -14,13 +13,12 @@ use Rattle.chip_registers.specs.declared.Block.the-variants.{Control, WindowEnt
 use Rattle.chip_registers.specs.declared.Register.{Register}
 use Rattle.line_windows.specs.Table.{TableCell, tableView}
 use Rattle.line_pixels.specs.Cells.{Channel, PixelCell, glyph, cursorColour, mapEntry, gamma, pixelWord, pixelView}
-use Rattle.line_pixels.specs.Colour.{overlayCounts}
 use Rattle.line_pixels.specs.declared.Screen.{Screen}
 use Rattle.line_setup.specs.declared.setup.Setup.{Setup}
 use Rattle.line.specs.Screen.{screenIn}
 use Rattle.line.specs.Cells.{ofTable, windowEntry, Lent, lentOf}
 use Rattle.line_reads.specs.TableList.{HasEntry, WindowListed}
-use Rattle.line_reads.specs.ColourList.{cursorHere, overlayHere}
+use Rattle.line_reads.specs.ColourList.{CursorTransparent, BothSwitches, OverlayTransparent}
 use Rattle.line_reads.specs.Listed.{PixelListed, Listed}
 
 -- what is lent, with this store in place of its own
@@ -80,19 +78,19 @@ module _ (setup : Setup) (lent : Lent) where
   abbrev pub SameUncovered : List ℕ → Type 0
   SameUncovered row =
       EachPixel (λ x entry.
-      cursorHere colourCells screen entry x ≡ 0 → overlayHere colourCells screen entry x ≡ 0
+      CursorTransparent colourCells screen x → OverlayTransparent colourCells screen entry x
       → pixelWord (setup .controls .depth) (lent .normal) x ≡ pixelWord (setup .controls .depth) row x)
 
   -- another back buffer and other covered samples at once: where cursor and overlay are transparent, the chosen sample is the same
   abbrev pub SameSeen : List ℕ → Type 0
   SameSeen row =
       EachPixel (λ x entry.
-      cursorHere colourCells screen entry x ≡ 0 → overlayHere colourCells screen entry x ≡ 0 → chosen (lent .normal) x entry ≡ chosen row x entry)
+      CursorTransparent colourCells screen x → OverlayTransparent colourCells screen entry x → chosen (lent .normal) x entry ≡ chosen row x entry)
 
   -- other overlay bytes under an opaque cursor, or where overlay doesn't count
   abbrev pub SameOverlaid : List ℕ → Type 0
   SameOverlaid row =
-      EachPixel (λ x entry. cursorHere colourCells screen entry x ≡ 0 → overlayCounts screen entry ≡ true → getD (lent .overlay) x 0 ≡ getD row x 0)
+      EachPixel (λ x entry. CursorTransparent colourCells screen x → BothSwitches screen entry → getD (lent .overlay) x 0 ≡ getD row x 0)
 
   -- ---- the table
 
