@@ -8,11 +8,12 @@ use Rattle.line.specs.Cells.{Cell, Lent, view}
 use Rattle.line.specs.Line.{lineOf}
 use Rattle.line.specs.Drawn.{setupOf, drawn}
 use Rattle.line.specs.declared.request.Request.{Request}
-use Rattle.line_reads.specs.Calls.{SameLengths, AgreeOnReads}
+use Rattle.line_reads.specs.Calls.{controlsIn, SameLengths, SameCall, AgreeOnReads, DrawnAlike}
 use Rattle.line_reads.specs.Listed.{Listed, AgreeOnList}
-use Rattle.line_reads.proofs.Demand.{line-rests, line-reads, drawn-rests}
+use Rattle.line_reads.proofs.Demand.{line-rests, line-reads}
 use Rattle.line_reads.proofs.OnlyListed.{reads-listed}
 use Rattle.line_reads.proofs.AllListed.{listed-reads}
+use Rattle.line_reads.proofs.Alike.{drawn-alike, drawn-rests}
 
 module _ (setup : Setup) (lent other : Lent) (agree : AgreeOnList setup lent other) where
   -- lents that agree on what is listed agree on the cells that the line reads
@@ -34,8 +35,14 @@ pub line-rests-on-longer : (setup : Setup) (lent other : Lent) (Longer : Cell �
     → ((cell : Cell) → Longer cell → view lent cell ≡ view other cell) → lineOf setup lent ≡ lineOf setup other
 line-rests-on-longer setup lent other Longer holds agree = line-rests-on-list setup lent other (λ cell listed. agree cell (holds cell listed))
 
--- two calls that agree on the cells listed for the first leave and answer the same: state, output and answer
-pub drawn-rests-on-list : (request : Request) (lent other : Lent) → SameLengths lent other → (output : List ℕ)
+-- two calls that go by the same and agree on the cells listed for the first answer and draw the same, whatever their outputs held
+pub alike-on-list : (request again : Request) (lent other : Lent) (output old : List ℕ) → SameCall request again lent other output old
+    → AgreeOnList (setupOf request lent (length output)) lent other → DrawnAlike request again lent other output old
+alike-on-list request again lent other output old same agree =
+    drawn-alike request again lent other output old same (on-reads (setupOf request lent (length output)) lent other agree)
+
+-- the same call with other memory leaves and answers the same: state, output and answer
+pub drawn-rests-on-list : (request : Request) (lent other : Lent) → SameLengths (controlsIn request) lent other → (output : List ℕ)
     → AgreeOnList (setupOf request lent (length output)) lent other → drawn request lent output ≡ drawn request other output
 drawn-rests-on-list request lent other same output agree =
     drawn-rests request lent other same output (on-reads (setupOf request lent (length output)) lent other agree)

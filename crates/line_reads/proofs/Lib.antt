@@ -10,12 +10,13 @@ pub mod MetPixels
 pub mod Early
 pub mod OnlyListed
 pub mod AllListed
-pub mod ByList
 pub mod Outputs
+pub mod Reasons
+pub mod Answers
+pub mod Alike
+pub mod ByList
 pub mod PixelColour
 pub mod Active
 pub mod Hidden
-pub mod Reasons
-pub mod Answers
 pub mod Below
 pub mod Off

@@ -1,10 +1,10 @@
--- The output after a line: colours in the active width, the rest and the length as before; what it held counts for nothing. Assumes nothing.
+-- The output after a line: colours in the active width, the rest and the length as before. Assumes nothing.
 use Prim.Native.Nat.{ℕ, _+_, _-_, _≤_, _<_}
 use mathlib.Core.Path.{_≡_, refl, sym, ap, _∙_}
 use mathlib.Core.List.{List, _++_}
 use native.Mathlib.Omega.{arith}
-use lib.ListN.{length, getD, drop, length-append, length-drop, List·getD-append}
-use lib.Seq.{getD-append-add, getD-drop}
+use lib.ListN.{length, getD, take, drop, length-append, length-drop, List·getD-append}
+use lib.Seq.{getD-append-add, getD-drop, take-at, drop-at}
 use Rattle.rules.specs.Rule.{Outcome, ok, refused, run, _>>=_}
 use Rattle.rules.specs.Faults.{Numbered}
 use Rattle.rules.specs.Checked.{verdict}
@@ -20,8 +20,6 @@ use Rattle.line.specs.Cells.{Lent, view}
 use Rattle.line.specs.Line.{entriesOf, coloursOf, lineOf}
 use Rattle.line.specs.Drawn.{setupOf, drawn, withoutColours, outputAfter}
 use Rattle.line.specs.declared.request.Request.{Request}
-use Rattle.line_reads.specs.Calls.{SameLengths, AgreeOnReads}
-use Rattle.line_reads.proofs.Demand.{outcome-rests}
 use Rattle.line_reads.proofs.Before.{refused-unread, passes}
 use Rattle.line_reads.proofs.Frames.{starting}
 use Rattle.line_reads.proofs.Pixels.{entering}
@@ -69,6 +67,25 @@ module _ (request : Request) (lent : Lent) (output : List ℕ) where
       ap (λ (line : Outcome Numbered (List ℕ)). getD (outputAfter width output line) x 0) e
       ∙ List·getD-append colours (drop width output) 0 x (omega (arith, colours-length given lent e))
 
+  -- the words of the active width are then the colours
+  pub words-drawn : {colours : List ℕ} → lineOf given lent ≡ ok colours → take (controlsOf (request .state .control) .width) (drawn request lent output .0 .1) ≡ colours
+  unfolding drawn setupOf
+  words-drawn {colours} e =
+      let width = controlsOf (request .state .control) .width in
+      ap (λ (line : Outcome Numbered (List ℕ)). take width (outputAfter width output line)) e
+      ∙ take-at colours (drop width output) width (colours-length given lent e)
+
+  -- the words past the active width stay, whatever comes of the line
+  pub words-past : drop (controlsOf (request .state .control) .width) (drawn request lent output .0 .1) ≡ drop (controlsOf (request .state .control) .width) output
+  unfolding drawn setupOf
+  words-past = by (lineOf given lent) refl
+    where
+      -- the colours of a drawn line end at the active width; a refused line leaves the output as it was
+      by : (line : Outcome Numbered (List ℕ)) → lineOf given lent ≡ line
+          → drop (given .controls .width) (outputAfter (given .controls .width) output line) ≡ drop (given .controls .width) output
+      by (ok colours) e = drop-at colours (drop (given .controls .width) output) (given .controls .width) (colours-length given lent e)
+      by (refused refusal) e = refl
+
   -- a word past the active width stays, whatever comes of the line
   pub word-past : (x : ℕ) → controlsOf (request .state .control) .width ≤ x → getD (drawn request lent output .0 .1) x 0 ≡ getD output x 0
   unfolding drawn setupOf
@@ -108,13 +125,3 @@ module _ (request : Request) (lent : Lent) (output : List ℕ) where
           let width = given .controls .width in
           omega (arith, length-append colours (drop width output), length-drop width output, colours-length given lent e, line-fits e)
       by (refused refusal) e = refl
-
--- outputs of the same length that held different words: where a line is drawn, the words of the active width are the same after it
-pub words-rest : (request : Request) (lent other : Lent) → SameLengths lent other → (output old : List ℕ) → length output ≡ length old
-    → AgreeOnReads (setupOf request lent (length output)) lent other → drawn request lent output .1 ≡ ok tt
-    → (i : ℕ) → i < controlsOf (request .state .control) .width → getD (drawn request lent output .0 .1) i 0 ≡ getD (drawn request other old .0 .1) i 0
-words-rest request lent other same output old long agree is-drawn i below =
-    let line = drawn-line request lent output is-drawn in
-    let again : lineOf (setupOf request other (length old)) other ≡ ok (line .0) =
-    ap (λ (n : ℕ). lineOf (setupOf request other n) other) (sym long) ∙ sym (outcome-rests request lent other same (length output) agree) ∙ line .1 in
-    word-drawn request lent output (line .1) i below ∙ sym (word-drawn request other old again i below)
