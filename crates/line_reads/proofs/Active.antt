@@ -104,14 +104,20 @@ module _ (setup : Setup) (lent : Lent) where
     colour-refused (of-8 is listed) = listed
     colour-refused (of-9 is listed) = listed
 
-    -- a cell that a colour comes from is listed for an active pixel of a line that is drawn
-    pub colour-active : Listed setup lent (ofColour cell) → PixelListed setup lent cell
-    colour-active listed = by (lineOf setup lent) listed
+    -- a cell that a colour comes from is listed only of a line that is drawn, and for an active pixel of it
+    pub record ShownBy : Type 0 where
+      pub colours : List ℕ
+      pub is-drawn : lineOf setup lent ≡ ok colours
+      pub shown : PixelListed setup lent cell
+
+    -- a line that is refused lists none
+    pub colour-active : Listed setup lent (ofColour cell) → ShownBy
+    colour-active listed = by (lineOf setup lent) refl listed
       where
-        -- a line that is drawn lists it for a pixel; one that is refused doesn't list it
-        by : (line : Outcome Numbered (List ℕ)) → ListedFor setup lent line (ofColour cell) → PixelListed setup lent cell
-        by (ok colours) there = there
-        by (refused refusal) there = absurd (colour-refused there)
+        -- a line that is drawn lists it for a pixel
+        by : (line : Outcome Numbered (List ℕ)) → lineOf setup lent ≡ line → ListedFor setup lent line (ofColour cell) → ShownBy
+        by (ok colours) e there = record { colours = colours; is-drawn = e; shown = there }
+        by (refused refusal) e there = absurd (colour-refused there)
 
   -- ---- where window IDs are off
 

@@ -17,6 +17,7 @@ pub mod Alike
 pub mod ByList
 pub mod PixelColour
 pub mod Active
+pub mod Unseen
 pub mod Hidden
 pub mod Below
 pub mod Off

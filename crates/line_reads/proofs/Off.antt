@@ -1,50 +1,39 @@
 -- An overlay row where overlay is off, and a table where window IDs are off, may be any, of any length. Assumes nothing.
 use Prim.Native.Nat.{ℕ}
-use mathlib.Core.Path.{_≡_, refl, ap, _∙_}
+use mathlib.Core.Path.{_≡_, refl}
 use mathlib.Core.Bool.{false}
 use mathlib.Core.List.{List}
 use lib.ListN.{length}
-use Rattle.rules.specs.Rule.{Rule, Outcome, run}
-use Rattle.rules.specs.Faults.{Numbered}
-use Rattle.chip.specs.declared.state.State.{State}
-use Rattle.line_setup.specs.Controls.{controlsOf}
-use Rattle.line_setup.specs.Faults.{tableTooLong, overlayWrong, lengthFaults, lineFaults}
-use Rattle.line.specs.Cells.{Cell, Lent, view}
-use Rattle.line.specs.Line.{startOf, idAt, windowEntryAt, entriesOf, coloursOf, lineRule, lineOf}
-use Rattle.line.specs.Drawn.{setupOf, withoutColours, outputAfter, drawn}
+use Rattle.rules.proofs.Cases.{impossible}
+use Rattle.line_setup.specs.declared.setup.Setup.{Setup}
+use Rattle.line.specs.Cells.{Lent}
+use Rattle.line.specs.Drawn.{setupOf, drawn}
 use Rattle.line.specs.declared.request.Request.{Request}
+use Rattle.line_reads.specs.Calls.{controlsIn}
 use Rattle.line_reads.specs.Hidden.{otherTable, otherOverlay}
-use Rattle.line_reads.proofs.Hidden.{overlay-off, other-table}
+use Rattle.line_reads.proofs.ByList.{drawn-rests-on-list}
+use Rattle.line_reads.proofs.Unseen.{seen-agree}
+use Rattle.line_reads.proofs.Hidden.{store-same, rows-same, rows-off, fields-off}
 
 module _ (request : Request) (lent : Lent) (output : List ℕ) where
-  -- what a call leaves and answers, by what comes of its line
-  abbrev by-line : Outcome Numbered (List ℕ) → (State × List ℕ) × Outcome Numbered (Unit {0})
-  by-line line = ((request .state, outputAfter (controlsOf (request .state .control) .width) output line), withoutColours line)
+  -- what the line goes by
+  abbrev given : Setup
+  given = setupOf request lent (length output)
 
-  -- where overlay is off, the rule of the line doesn't look at the row's length
-  overlay-length : controlsOf (request .state .control) .overlay ≡ false → (row : List ℕ)
-      → lineRule (setupOf request lent (length output)) ≡ lineRule (setupOf request (otherOverlay lent row) (length output))
-  unfolding setupOf lineRule lineFaults lengthFaults overlayWrong tableTooLong entriesOf coloursOf
-  overlay-length off row = rw off refl
-
-  -- any overlay row where overlay is off
-  pub drawn-overlay-off : controlsOf (request .state .control) .overlay ≡ false → (row : List ℕ) → drawn request lent output ≡ drawn request (otherOverlay lent row) output
-  unfolding drawn setupOf lineOf
+  -- any overlay row, of any length, where overlay is off
+  pub drawn-overlay-off : controlsIn request .overlay ≡ false → (row : List ℕ) → drawn request lent output ≡ drawn request (otherOverlay lent row) output
+  unfolding setupOf
   drawn-overlay-off off row =
-      ap by-line
-      (ap (λ (rule : Rule Numbered Cell (List ℕ)). run (view lent) rule) (overlay-length off row)
-      ∙ overlay-off (setupOf request (otherOverlay lent row) (length output)) lent row off)
+      drawn-rests-on-list request lent (otherOverlay lent row)
+      (record { store = refl; table = λ on. refl; normal = refl; overlay = λ on. impossible (cc) }) output
+      (seen-agree given lent (otherOverlay lent row)
+      (record { table = λ cell listed. refl; store = store-same given lent; rows = rows-off given lent row off }))
 
-  -- where window IDs are off, it doesn't look at the table's length
-  table-length : controlsOf (request .state .control) .ids ≡ false → (table : List ℕ)
-      → lineRule (setupOf request lent (length output)) ≡ lineRule (setupOf request (otherTable lent table) (length output))
-  unfolding setupOf lineRule lineFaults lengthFaults overlayWrong tableTooLong entriesOf coloursOf startOf windowEntryAt idAt
-  table-length off table = rw off refl
-
-  -- any table where window IDs are off
-  pub drawn-table-off : controlsOf (request .state .control) .ids ≡ false → (table : List ℕ) → drawn request lent output ≡ drawn request (otherTable lent table) output
-  unfolding drawn setupOf lineOf
+  -- any table, of any length, where window IDs are off
+  pub drawn-table-off : controlsIn request .ids ≡ false → (table : List ℕ) → drawn request lent output ≡ drawn request (otherTable lent table) output
+  unfolding setupOf
   drawn-table-off off table =
-      ap by-line
-      (ap (λ (rule : Rule Numbered Cell (List ℕ)). run (view lent) rule) (table-length off table)
-      ∙ other-table (setupOf request (otherTable lent table) (length output)) lent table off)
+      drawn-rests-on-list request lent (otherTable lent table)
+      (record { store = refl; table = λ on. impossible (cc); normal = refl; overlay = λ on. refl }) output
+      (seen-agree given lent (otherTable lent table)
+      (record { table = fields-off given lent table off; store = store-same given lent; rows = rows-same given lent }))

@@ -4,5 +4,6 @@ pub mod TableList
 pub mod PixelColour
 pub mod ColourList
 pub mod Listed
+pub mod Unseen
 pub mod Hidden
 pub mod Reasons
