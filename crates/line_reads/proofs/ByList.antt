@@ -30,11 +30,6 @@ module _ (setup : Setup) (lent other : Lent) (agree : AgreeOnList setup lent oth
       reads-listed setup other cell
       (subst (List·Memᴰ cell) (line-reads setup lent other on-reads) (listed-reads setup lent cell listed))
 
--- any longer list will do as well: the paper's own, which has of the entries that a search passes over more than their ends, is one
-pub line-rests-on-longer : (setup : Setup) (lent other : Lent) (Longer : Cell → Type 0) → ((cell : Cell) → Listed setup lent cell → Longer cell)
-    → ((cell : Cell) → Longer cell → view lent cell ≡ view other cell) → lineOf setup lent ≡ lineOf setup other
-line-rests-on-longer setup lent other Longer holds agree = line-rests-on-list setup lent other (λ cell listed. agree cell (holds cell listed))
-
 -- two calls that go by the same and agree on the cells listed for the first answer and draw the same, whatever their outputs held
 pub alike-on-list : (request again : Request) (lent other : Lent) (output old : List ℕ) → SameCall request again lent other output old
     → AgreeOnList (setupOf request lent (length output)) lent other → DrawnAlike request again lent other output old

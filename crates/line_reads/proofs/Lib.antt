@@ -16,6 +16,7 @@ pub mod Answers
 pub mod Alike
 pub mod ByList
 pub mod PixelColour
+pub mod PaperList
 pub mod Active
 pub mod Unseen
 pub mod Hidden

@@ -35,7 +35,7 @@ module _ (setup : Setup) (lent : Lent) {start : ℕ} (started : run (view lent) 
   has-id x e = run-ok (view lent) (starting setup lent) _ started ∙ e
 
   -- an end that a pixel met reads is one of those searched
-  searched-for : (lines : Search) {met x entry number : ℕ} → setup .controls .ids ≡ true → AllIds met → x < met → LineEntry setup lent start x entry
+  pub searched-for : (lines : Search) {met x entry number : ℕ} → setup .controls .ids ≡ true → AllIds met → x < met → LineEntry setup lent start x entry
       → number ≤ entry → Searched setup lent lines met start number
   searched-for toTheOneFound {met} {x} {entry} {number} on ids is-met found up-to =
       let last : ℕ = met - 1 in

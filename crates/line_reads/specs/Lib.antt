@@ -4,6 +4,7 @@ pub mod TableList
 pub mod PixelColour
 pub mod ColourList
 pub mod Listed
+pub mod PaperList
 pub mod Unseen
 pub mod Hidden
 pub mod Reasons

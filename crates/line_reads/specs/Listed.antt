@@ -16,6 +16,21 @@ use Rattle.line_reads.specs.Reach.{Reach, drawnWhole, noFrameEntry, noLi
 use Rattle.line_reads.specs.TableList.{FrameEntry, HasEntry, FrameListed, LineListed, IdListed, WindowListed}
 use Rattle.line_reads.specs.ColourList.{ColourListed}
 
+-- ---- how far a line gets, of any list that goes by that
+
+-- a line that is refused gets up to its fault, which the refusal's number and place tell: 7, 8 and 9; any other comes before anything is read
+pub data UpToFault (To : Reach → Cell → Type 0) (refusal : Numbered) (cell : Cell) : Type 0 where
+  of-7 : refusal .number ≡ 7 → To noFrameEntry cell → UpToFault To refusal cell
+  of-8 : refusal .number ≡ 8 → To (noLineEntry (placeIn refusal)) cell → UpToFault To refusal cell
+  of-9 : refusal .number ≡ 9 → To (undefinedEntry (placeIn refusal)) cell → UpToFault To refusal cell
+
+-- a line that is drawn gets to the end of its width, one that is refused up to its fault
+abbrev pub AsFarAs : ℕ → (Reach → Cell → Type 0) → Outcome Numbered (List ℕ) → Cell → Type 0
+AsFarAs width To (ok colours) cell = To (drawnWhole width) cell
+AsFarAs width To (refused refusal) cell = UpToFault To refusal cell
+
+-- ---- the list
+
 module _ (setup : Setup) (lent : Lent) where
   -- a cell of the colour of some active pixel
   pub record PixelListed (cell : PixelCell) : Type 0 where
@@ -39,16 +54,13 @@ module _ (setup : Setup) (lent : Lent) where
   ListedTo reach (windowEntry id) = WindowListed setup lent (reach .met) id
   ListedTo reach (ofColour cell) = ColoursListed (reach .coloured) cell
 
-  -- a line that is refused gets up to its fault, which the refusal's number and place tell: 7, 8 and 9; any other comes before anything is read
-  pub data RefusedListed (refusal : Numbered) (cell : Cell) : Type 0 where
-    of-7 : refusal .number ≡ 7 → ListedTo noFrameEntry cell → RefusedListed refusal cell
-    of-8 : refusal .number ≡ 8 → ListedTo (noLineEntry (placeIn refusal)) cell → RefusedListed refusal cell
-    of-9 : refusal .number ≡ 9 → ListedTo (undefinedEntry (placeIn refusal)) cell → RefusedListed refusal cell
+  -- so far as a refused line gets
+  abbrev pub RefusedListed : Numbered → Cell → Type 0
+  RefusedListed = UpToFault ListedTo
 
   -- by what comes of the line
   abbrev pub ListedFor : Outcome Numbered (List ℕ) → Cell → Type 0
-  ListedFor (ok colours) cell = ListedTo (drawnWhole (setup .controls .width)) cell
-  ListedFor (refused refusal) cell = RefusedListed refusal cell
+  ListedFor = AsFarAs (setup .controls .width) ListedTo
 
   -- the cells that the line reads
   abbrev pub Listed : Cell → Type 0
