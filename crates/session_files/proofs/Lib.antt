@@ -1,4 +1,5 @@
 pub mod Step
+pub mod Outputs
 pub mod Behind
 pub mod Alone
 pub mod Cuts

@@ -1,3 +1,4 @@
+pub mod Outputs
 pub mod Steps
 pub mod Calls
 pub mod Ends
