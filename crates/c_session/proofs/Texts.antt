@@ -5,23 +5,22 @@ use mathlib.Core.Bool.{Bool, true, false, cond}
 use mathlib.Core.List.{List, [], _∷_}
 use native.Mathlib.Nat.{zero-add}
 use native.Mathlib.Omega.{arith}
-use borrow.Author.Tests.{lt-ltb, le-ltb, le-leb, eqb-true, not-false}
-use lib.Dec.{eqb}
+use borrow.Author.Tests.{lt-ltb, le-ltb, le-leb}
 use lib.ListN.{length, length-take}
 use Rattle.rules.specs.Rule.{Outcome, ok, refused}
 use Rattle.rules.specs.Faults.{Numbered, Fault}
 use Rattle.rules.specs.Checked.{verdict}
-use Rattle.rules.proofs.Faults.{accepted-clear}
 use Rattle.rules.proofs.Last.{firstOr, last-clear, last-holds}
 use Rattle.c_numbers.specs.Numbers.{refusedBy}
 use Rattle.session_listing.specs.Text.{EntrySays, coloursShown, text}
 use Rattle.session_listing.specs.Text as entry
 use Rattle.session_listing.specs.Room.{roomFor}
 use Rattle.session_answers.specs.Status.{Status, listed, ended, needsMore, stopped}
-use Rattle.session_rooms.specs.Rooms.{longestLine, roomFaults}
+use Rattle.session_rooms.specs.Rooms.{longestLine}
 use Rattle.session.specs.Lent.{Rooms, laid}
 use Rattle.session.specs.Step.{stepFaults, Left, afterStep, sessionStep}
 use Rattle.session.specs.declared.session.Session.{Session}
+use Rattle.session.proofs.Stepping.{answered-output}
 use Rattle.c_session.specs.Steps.{textRoom, shortText, textFault, statusInNumbers, textBy, stepAnswer, stepLeft, stepInNumbers}
 use Rattle.c_session.specs.Inner.{putEntry, putText, orText}
 use Rattle.c_session.specs.declared.steps.SteppedNumbers.{SteppedNumbers}
@@ -78,14 +77,6 @@ module _ (session : Session) (rooms : Rooms) (lent bytes : List ℕ) (place : �
       ap (λ (all : Left × Outcome Numbered Status). stepLeft all lent)
       (sym (last-clear ((session, place), rooms) (afterStep session rooms bytes place last) (stepFaults session rooms) (textFault (length lent)) (le-ltb (length lent) textRoom long)))
 
-  -- a step that is not refused is lent an output of its length
-  output-room : {status : Status} → sessionStep session rooms bytes place last .1 ≡ ok status → length (rooms .output) ≡ longestLine
-  unfolding sessionStep roomFaults
-  output-room {status} e =
-      eqb-true (length (rooms .output)) longestLine
-      (not-false (eqb (length (rooms .output)) longestLine)
-      (accepted-clear ((session, place), rooms) (afterStep session rooms bytes place last) (stepFaults session rooms) status e .1 .1 .1 .1 .1 .0))
-
   -- a step and its text, from what the session's step and the putting of its text left
   pub step-made : {left : Left × Outcome Numbered Status} {put : ℕ × List ℕ} → left ≡ sessionStep session rooms bytes place last
       → put ≡ putText (left .1) (left .0 .1 .output) lent → length (left .0 .1 .output) ≡ length (rooms .output) → textRoom ≤ length lent
@@ -96,6 +87,6 @@ module _ (session : Session) (rooms : Rooms) (lent bytes : List ℕ) (place : �
       ap (λ (one : ℕ × List ℕ). (stepAnswer (left .0 .0) (statusInNumbers (left .1)) (one .0), (left .0 .1, one .1)))
       (text-is
       ∙ text-put (left .0 .1 .output) lent long (left .1)
-      (λ status e. omega (arith, same, output-room (ap (λ (all : Left × Outcome Numbered Status). all .1) (sym stepped) ∙ e))))
+      (λ status e. omega (arith, same, answered-output session rooms bytes place last (ap (λ (all : Left × Outcome Numbered Status). all .1) (sym stepped) ∙ e))))
       ∙ ap (λ (all : Left × Outcome Numbered Status). stepLeft all lent) stepped
       ∙ step-of-session long

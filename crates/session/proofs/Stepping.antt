@@ -12,7 +12,7 @@ use lib.Seq.{length-take-le, drop-drop}
 use Rattle.rules.specs.Rule.{Outcome, ok, refused}
 use Rattle.rules.specs.Faults.{Numbered}
 use Rattle.rules.specs.Checked.{verdict}
-use Rattle.rules.proofs.Faults.{none-holds, first-holds}
+use Rattle.rules.proofs.Faults.{none-holds, first-holds, accepted-clear}
 use Rattle.rules.proofs.Checked.{first-verdict, clear-verdict}
 use Rattle.refusals.specs.Refusal.{numbered}
 use Rattle.refusals.specs.declared.Refusal.{Refusal}
@@ -28,7 +28,7 @@ use Rattle.session_records.proofs.Tests.{neither}
 use Rattle.session_records.proofs.Behind.{judgedAt}
 use Rattle.session_records.proofs.Limits.{table-fits, normal-fits, overlay-fits}
 use Rattle.session_answers.specs.Status.{Status, needsMore, stopped}
-use Rattle.session_rooms.specs.Rooms.{tooMuchHeld, roomFaults}
+use Rattle.session_rooms.specs.Rooms.{longestLine, tooMuchHeld, roomFaults}
 use Rattle.session.specs.Held.{Held}
 use Rattle.session.specs.Record.{statusBy, contextOf, stepped}
 use Rattle.session.specs.Lent.{Rooms, heldIn, leftIn}
@@ -130,6 +130,12 @@ module _ (session : Session) (rooms : Rooms) (bytes : List ℕ) (place : ℕ) (l
       sessionStep session rooms bytes place last ≡ (after .0, ok (after .1))
   unfolding sessionStep
   step-done e = none-holds before (afterStep session rooms bytes place last) (stepFaults session rooms) (clear-verdict (stepFaults session rooms) e)
+
+  -- a step that is answered is lent an output of its length
+  pub answered-output : {status : Status} → sessionStep session rooms bytes place last .1 ≡ ok status → length (rooms .output) ≡ longestLine
+  unfolding sessionStep roomFaults
+  answered-output {status} e =
+      right-room _ _ (accepted-clear before (afterStep session rooms bytes place last) (stepFaults session rooms) status e .1 .1 .1 .1 .1 .0)
 
   -- what is left after so many bytes
   abbrev left-after : ℕ → Session × Rooms → Left

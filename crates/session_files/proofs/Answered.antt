@@ -1,8 +1,8 @@
 -- From a session's start no call is refused, so that every file has its listing by calls, however it is cut. Assumes nothing.
 use Prim.Native.Nat.{ℕ, _+_, _≤_}
 use mathlib.Core.Path.{_≡_, refl, sym, ap, subst, _∙_}
-use mathlib.Core.Bool.{Bool, false}
-use mathlib.Core.List.{List, [], _++_}
+use mathlib.Core.Bool.{Bool}
+use mathlib.Core.List.{List, _++_}
 use native.Mathlib.Omega.{arith}
 use borrow.Author.Tests.{le-ltb, eq-eqb}
 use lib.ListN.{length, drop, length-append, length-drop}
@@ -24,11 +24,11 @@ use Rattle.session.specs.Inner.{HeldWithin}
 use Rattle.session.specs.declared.session.Session.{Session}
 use Rattle.session_files.specs.Steps.{none, Steps}
 use Rattle.session_files.specs.Steps as steps
-use Rattle.session_files.specs.Calls.{Calls, lends, lists, ends, stops, Zeroed, RightLengths, Roomy}
-use Rattle.session_files.proofs.Step.{waiting-leaves, stopped-leaves}
-use Rattle.session_files.proofs.Cuts.{steps-end}
+use Rattle.session_files.specs.Calls.{Calls, adds, waits, lists, ends, stops, Zeroed, RightLengths, Roomy}
+use Rattle.session_files.proofs.Step.{stopped-leaves}
+use Rattle.session_files.proofs.Cuts.{steps-go-on}
 use Rattle.session_files.proofs.Calls.{held-again, same-held, same-output, same-place, first-held, calls-list}
-use Rattle.session_files.proofs.Sizes.{empty-roomy, stays-roomy}
+use Rattle.session_files.proofs.Sizes.{empty-roomy, stays-roomy, stays-long}
 
 -- a session and rooms at which no call is refused: what is held has its sizes and lies within rooms of the right lengths
 pub record Ready (session : Session) (rooms : Rooms) : Type 0 where
@@ -56,7 +56,7 @@ roomy-clear {session} {rooms} ready =
             rw (eq-eqb (length (rooms .normal)) longestNormal (right .normal-long)) refl,
             (
               rw (eq-eqb (length (rooms .overlay)) longestOverlay (right .overlay-long)) refl,
-              (rw (eq-eqb (length (rooms .output)) longestLine (roomy .output-long)) refl, tt),
+              (rw (eq-eqb (length (rooms .output)) longestLine (right .output-long)) refl, tt),
             ),
           ),
         ),
@@ -68,8 +68,8 @@ laid-length : (room bytes : List ℕ) → length bytes ≤ length room → lengt
 laid-length room bytes fits = omega (arith, length-append bytes (drop (length bytes) room), length-drop (length bytes) room)
 
 -- what has its sizes, put into rooms of the right lengths, is ready for the next call
-put-ready : (held : Held) (rooms : Rooms) → Roomy held → RightLengths rooms → Ready (sessionOf held) (roomsWith rooms held)
-put-ready held rooms roomy right =
+put-ready : (held : Held) (rooms : Rooms) → Roomy held → RightLengths rooms → length (held .output) ≡ longestLine → Ready (sessionOf held) (roomsWith rooms held)
+put-ready held rooms roomy right long =
     let table-same = laid-length (rooms .table) (held .table) (rw (right .table-long) (roomy .table-held)) in
     let normal-same = laid-length (rooms .normal) (held .normal) (rw (right .normal-long) (roomy .normal-held)) in
     let overlay-same = laid-length (rooms .overlay) (held .overlay) (rw (right .overlay-long) (roomy .overlay-held)) in
@@ -84,6 +84,7 @@ put-ready held rooms roomy right =
         table-long = table-same ∙ right .table-long;
         normal-long = normal-same ∙ right .normal-long;
         overlay-long = overlay-same ∙ right .overlay-long;
+        output-long = long;
       };
     }
 
@@ -109,22 +110,23 @@ module _ (session : Session) (rooms : Rooms) (bytes : List ℕ) (place : ℕ) (l
   stays-ready =
       put-ready (stepped last (heldIn session rooms) (drop place bytes) .0 .0) rooms
       (stays-roomy last (heldIn session rooms) (drop place bytes) (ready .roomy)) (ready .right)
+      (stays-long last (heldIn session rooms) (drop place bytes) ∙ ready .right .output-long)
 
--- steps over what is held are calls: where one waits, only the unread bytes stay lent
+-- steps over what is held are calls: where a piece is added, only the unread bytes stay lent
 pub steps-calls : {held : Held} {unread : List ℕ} {pieces : List (List ℕ)} {written : List ℕ} → Steps held unread pieces written
     → (session : Session) (rooms : Rooms) (bytes : List ℕ) (place : ℕ) → Ready session rooms → heldIn session rooms ≡ held → drop place bytes ≡ unread
     → Calls session rooms bytes place pieces written
-steps-calls (steps.lends {held = held} {unread = unread} {piece = piece} waited others) session rooms bytes place ready same here =
-    let waits-so : stepped false (heldIn session rooms) (drop place bytes) .1 ≡ needsMore = rw (same, here) waited in
-    let is = call-comes session rooms bytes place false ready waits-so in
-    let leaves = waiting-leaves false (heldIn session rooms) (drop place bytes) waits-so in
-    let next = left session rooms bytes place false in
-    let held-is : heldIn (next .0 .0) (next .1) ≡ held = same-held session rooms bytes place false is ∙ ap (λ (all : Held × ℕ). all .0) leaves ∙ same in
-    let unread-is : drop (next .0 .1) bytes ≡ unread =
-    same-place session rooms bytes place false is ∙ ap (λ (all : Held × ℕ). drop (all .1) (drop place bytes)) leaves ∙ here in
-    lends is refl
-    (steps-calls others (next .0 .0) (next .1) (drop (next .0 .1) bytes ++ piece) 0 (stays-ready session rooms bytes place false ready) held-is
-    (ap (λ (front : List ℕ). front ++ piece) unread-is))
+steps-calls (steps.adds {piece = piece} others) session rooms bytes place ready same here =
+    adds refl (steps-calls others session rooms (drop place bytes ++ piece) 0 ready same (ap (λ (front : List ℕ). front ++ piece) here))
+steps-calls (steps.waits {after = after} {unread = unread} {pieces = pieces} {taken = taken} stepped-so others) session rooms bytes place ready same here =
+    let last = none pieces in
+    let step-is : stepped last (heldIn session rooms) (drop place bytes) ≡ ((after, taken), needsMore) = rw (same, here) stepped-so in
+    let is = call-comes session rooms bytes place last ready (ap (λ (all : (Held × ℕ) × Status). all .1) step-is) in
+    let next = left session rooms bytes place last in
+    let held-is : heldIn (next .0 .0) (next .1) ≡ after = same-held session rooms bytes place last is ∙ ap (λ (all : (Held × ℕ) × Status). all .0 .0) step-is in
+    let unread-is : drop (next .0 .1) bytes ≡ drop taken unread =
+    same-place session rooms bytes place last is ∙ rw (step-is, here) refl in
+    waits is (steps-calls others (next .0 .0) (next .1) bytes (next .0 .1) (stays-ready session rooms bytes place last ready) held-is unread-is)
 steps-calls (steps.lists {after = after} {unread = unread} {pieces = pieces} {rest = rest} {taken = taken} {entry = entry} stepped-so others) session rooms bytes place ready same here =
     let last = none pieces in
     let step-is : stepped last (heldIn session rooms) (drop place bytes) ≡ ((after, taken), listed entry) = rw (same, here) stepped-so in
@@ -147,24 +149,25 @@ steps-calls (steps.stops {held = held} {pieces = pieces} {refusal = refusal} sto
     ∙ ap (λ (other : Held). other .output) same in
     subst (λ (output : List ℕ). Calls session rooms bytes place pieces (text (saysRefused refusal) output)) output-is (stops is)
 
--- a new session is ready in zeroed rooms of the right lengths
+-- a new session is ready in rooms of the right lengths with a zeroed store
 pub first-ready : {rooms : Rooms} → Zeroed rooms → RightLengths rooms → Ready (sessionOf nothingHeld) rooms
-first-ready zeroed right =
+first-ready {rooms} zeroed right =
     record {
-      roomy = subst Roomy (sym (first-held zeroed)) empty-roomy;
+      roomy = subst Roomy (sym (first-held rooms zeroed)) (empty-roomy (rooms .output));
       within = record { table-within = omega arith; normal-within = omega arith; overlay-within = omega arith };
       right = right;
     }
 
--- there are calls on a new session for every file, however it is cut
-pub calls-end : (rooms : Rooms) → Zeroed rooms → RightLengths rooms → (pieces : List (List ℕ))
-    → (written : List ℕ) × Calls (sessionOf nothingHeld) rooms [] 0 pieces written
-calls-end rooms zeroed right pieces =
-    let all = steps-end pieces in
-    (all .0, steps-calls (all .1) (sessionOf nothingHeld) rooms [] 0 (first-ready zeroed right) (first-held zeroed) refl)
+-- wherever a run is, calls go on to its end, whatever is lent and to come
+pub calls-go-on : (session : Session) (rooms : Rooms) → Ready session rooms → session .records ≤ 1000000 → (bytes : List ℕ) (place : ℕ) (pieces : List (List ℕ))
+    → (written : List ℕ) × Calls session rooms bytes place pieces written
+calls-go-on session rooms ready few bytes place pieces =
+    let all = steps-go-on (heldIn session rooms) few (drop place bytes) pieces in
+    (all .0, steps-calls (all .1) session rooms bytes place ready refl refl)
 
 -- calls on a new session list the file's listing, however it is cut
-pub calls-give : (rooms : Rooms) → Zeroed rooms → RightLengths rooms → (pieces : List (List ℕ)) → Calls (sessionOf nothingHeld) rooms [] 0 pieces (listing (joined pieces))
-calls-give rooms zeroed right pieces =
-    let all = calls-end rooms zeroed right pieces in
-    subst (Calls (sessionOf nothingHeld) rooms [] 0 pieces) (calls-list zeroed (all .1)) (all .1)
+pub calls-give : (rooms : Rooms) → Zeroed rooms → RightLengths rooms → (bytes : List ℕ) (pieces : List (List ℕ))
+    → Calls (sessionOf nothingHeld) rooms bytes 0 pieces (listing (bytes ++ joined pieces))
+calls-give rooms zeroed right bytes pieces =
+    let all = calls-go-on (sessionOf nothingHeld) rooms (first-ready zeroed right) (omega arith) bytes 0 pieces in
+    subst (Calls (sessionOf nothingHeld) rooms bytes 0 pieces) (calls-list zeroed (all .1)) (all .1)

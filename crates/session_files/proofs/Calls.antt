@@ -1,7 +1,7 @@
 -- Calls of the step, one after another, are steps over what is held, and list the file's listing. Assumes nothing.
 use Prim.Native.Nat.{ℕ, _+_}
 use mathlib.Core.Path.{_≡_, refl, sym, ap, subst, _∙_}
-use mathlib.Core.Bool.{Bool, false}
+use mathlib.Core.Bool.{Bool}
 use mathlib.Core.List.{List, _++_}
 use lib.ListN.{length, take, drop}
 use lib.Seq.{take-at, drop-drop}
@@ -10,18 +10,21 @@ use Rattle.rules.specs.Faults.{Numbered}
 use Rattle.rules.specs.Lists.{joined}
 use Rattle.rules.proofs.Faults.{none-holds, accepted-clear}
 use Rattle.session_listing.specs.Text.{saysRefused, text}
-use Rattle.session_answers.specs.Status.{Status, listed}
+use Rattle.session_answers.specs.Status.{Status, listed, needsMore}
 use Rattle.session_answers.proofs.ToListing.{status-of}
+use Rattle.session_rooms.specs.Rooms.{longestLine}
 use Rattle.session.specs.Held.{Held, nothingHeld}
 use Rattle.session.specs.Record.{stepped}
 use Rattle.session.specs.Listing.{listing}
 use Rattle.session.specs.Lent.{Rooms, heldIn, laid, roomsWith, sessionOf}
 use Rattle.session.specs.Step.{stepFaults, Left, afterStep, sessionStep}
 use Rattle.session.specs.declared.session.Session.{Session}
+use Rattle.session.proofs.Stepping.{answered-output}
+use Rattle.session_files.specs.Outputs.{withOutput}
 use Rattle.session_files.specs.Steps.{none, Steps}
 use Rattle.session_files.specs.Steps as steps
-use Rattle.session_files.specs.Calls.{Calls, lends, lists, ends, stops, Zeroed}
-use Rattle.session_files.proofs.Step.{waiting-leaves, stopped-leaves}
+use Rattle.session_files.specs.Calls.{Calls, adds, moves, waits, lists, ends, stops, Zeroed}
+use Rattle.session_files.proofs.Step.{stopped-leaves}
 use Rattle.session_files.proofs.Cuts.{cut-lists}
 
 -- what is laid at the front of a room is there again
@@ -71,17 +74,17 @@ module _ (session : Session) (rooms : Rooms) (bytes : List ℕ) (place : ℕ) (l
 -- calls are steps over what is held
 pub calls-steps : {session : Session} {rooms : Rooms} {bytes : List ℕ} {place : ℕ} {pieces : List (List ℕ)} {written : List ℕ}
     → Calls session rooms bytes place pieces written → Steps (heldIn session rooms) (drop place bytes) pieces written
-calls-steps {session} {rooms} {bytes} {place} (lends {next = next} {left = left} {more = more} {piece = piece} {at = at} {from = from} {pieces = pieces} {rest = rest} is behind others) =
-    let held = heldIn session rooms in
-    let unread = drop place bytes in
-    let waited = same-status session rooms bytes place false is in
-    let leaves = waiting-leaves false held unread waited in
-    let held-is : heldIn next left ≡ held = same-held session rooms bytes place false is ∙ ap (λ (all : Held × ℕ). all .0) leaves in
-    let unread-is : drop from more ≡ unread ++ piece =
-    behind ∙ ap (λ (front : List ℕ). front ++ piece) (same-place session rooms bytes place false is ∙ ap (λ (all : Held × ℕ). drop (all .1) unread) leaves) in
-    steps.lends waited
-    (subst (λ (lent : List ℕ). Steps held lent pieces rest) unread-is
-    (subst (λ (other : Held). Steps other (drop from more) pieces rest) held-is (calls-steps others)))
+calls-steps {session} {rooms} {bytes} {place} (adds {pieces = pieces} {rest = rest} behind others) =
+    steps.adds (subst (λ (unread : List ℕ). Steps (heldIn session rooms) unread pieces rest) behind (calls-steps others))
+calls-steps {session} {rooms} {bytes} {place} (moves {pieces = pieces} {rest = rest} same others) =
+    subst (λ (unread : List ℕ). Steps (heldIn session rooms) unread pieces rest) same (calls-steps others)
+calls-steps {session} {rooms} {bytes} {place} (waits {at = at} {pieces = pieces} {rest = rest} is others) =
+    let last = none pieces in
+    let step = stepped last (heldIn session rooms) (drop place bytes) in
+    let waits-so : step ≡ (step .0, needsMore) = ap (λ (status : Status). (step .0, status)) (same-status session rooms bytes place last is) in
+    steps.waits waits-so
+    (subst (λ (unread : List ℕ). Steps (step .0 .0) unread pieces rest) (same-place session rooms bytes place last is)
+    (subst (λ (held : Held). Steps held (drop at bytes) pieces rest) (same-held session rooms bytes place last is) (calls-steps others)))
 calls-steps {session} {rooms} {bytes} {place} (lists {next = next} {left = left} {at = at} {pieces = pieces} {rest = rest} {entry = entry} is others) =
     let last = none pieces in
     let step = stepped last (heldIn session rooms) (drop place bytes) in
@@ -99,12 +102,26 @@ calls-steps {session} {rooms} {bytes} {place} (stops {pieces = pieces} {refusal 
     ∙ ap (λ (all : Held × ℕ). all .0 .output) (stopped-leaves last (heldIn session rooms) (drop place bytes) stopped-so) in
     subst (λ (output : List ℕ). Steps (heldIn session rooms) (drop place bytes) pieces (text (saysRefused refusal) output)) (sym output-is) (steps.stops stopped-so)
 
--- in zeroed rooms a new session holds what there is at first
-pub first-held : {rooms : Rooms} → Zeroed rooms → heldIn (sessionOf nothingHeld) rooms ≡ nothingHeld
-first-held zeroed = rw (zeroed .store-zero, zeroed .output-zero) refl
+-- the first call is answered, so the output has its length
+calls-output : {session : Session} {rooms : Rooms} {bytes : List ℕ} {place : ℕ} {pieces : List (List ℕ)} {written : List ℕ}
+    → Calls session rooms bytes place pieces written → length (rooms .output) ≡ longestLine
+calls-output (adds behind others) = calls-output others
+calls-output (moves same others) = calls-output others
+calls-output {session} {rooms} {bytes} {place} (waits {pieces = pieces} is others) =
+    answered-output session rooms bytes place (none pieces) (ap (λ (all : Left × Outcome Numbered Status). all .1) is)
+calls-output {session} {rooms} {bytes} {place} (lists {pieces = pieces} is others) =
+    answered-output session rooms bytes place (none pieces) (ap (λ (all : Left × Outcome Numbered Status). all .1) is)
+calls-output {session} {rooms} {bytes} {place} (ends {pieces = pieces} is) =
+    answered-output session rooms bytes place (none pieces) (ap (λ (all : Left × Outcome Numbered Status). all .1) is)
+calls-output {session} {rooms} {bytes} {place} (stops {pieces = pieces} is) =
+    answered-output session rooms bytes place (none pieces) (ap (λ (all : Left × Outcome Numbered Status). all .1) is)
 
--- from zeroed rooms, calls on a new session list the file's listing, however it is cut
+-- over a zeroed store a new session holds what there is at first, and the output's words
+pub first-held : (rooms : Rooms) → Zeroed rooms → heldIn (sessionOf nothingHeld) rooms ≡ withOutput nothingHeld (rooms .output)
+first-held rooms zeroed = rw zeroed refl
+
+-- from a zeroed store, calls on a new session list the file's listing, however it is cut and whenever its pieces are lent
 pub calls-list : {rooms : Rooms} {bytes : List ℕ} {pieces : List (List ℕ)} {written : List ℕ} → Zeroed rooms
     → Calls (sessionOf nothingHeld) rooms bytes 0 pieces written → written ≡ listing (bytes ++ joined pieces)
 calls-list {rooms} {bytes} {pieces} {written} zeroed calls =
-    cut-lists (subst (λ (held : Held). Steps held bytes pieces written) (first-held zeroed) (calls-steps calls))
+    cut-lists (calls-output calls) (subst (λ (held : Held). Steps held bytes pieces written) (first-held rooms zeroed) (calls-steps calls))

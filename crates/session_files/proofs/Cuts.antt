@@ -1,6 +1,6 @@
 -- However a file is cut into pieces, its steps come to an end and list its listing. Assumes nothing.
-use Prim.Native.Nat.{ℕ, zero, suc, _+_, _≤_}
-use mathlib.Core.Path.{_≡_, refl, ap, sym, _∙_}
+use Prim.Native.Nat.{ℕ, zero, suc, _+_, _-_, _≤_}
+use mathlib.Core.Path.{_≡_, refl, ap, ap₂, sym, _∙_}
 use mathlib.Core.Bool.{true, false}
 use mathlib.Core.List.{List, [], _∷_, _++_, append-assoc, append-nil}
 use native.Mathlib.Omega.{arith}
@@ -11,12 +11,15 @@ use Rattle.rules.specs.Lists.{joined}
 use Rattle.rules.proofs.Cases.{impossible}
 use Rattle.session_listing.specs.Text.{EntrySays, saysRefused, text}
 use Rattle.session_answers.specs.Status.{Status, listed, ended, needsMore, stopped}
+use Rattle.session_rooms.specs.Rooms.{longestLine}
 use Rattle.session.specs.Held.{Held, nothingHeld}
 use Rattle.session.specs.Record.{stepped}
 use Rattle.session.specs.Listing.{listingFrom, listing}
-use Rattle.session_files.specs.Steps.{none, Steps, lends, lists, ends, stops}
-use Rattle.session_files.proofs.Step.{listed-counts, listed-takes, listed-there, listed-below, never-waits}
+use Rattle.session_files.specs.Outputs.{withOutput}
+use Rattle.session_files.specs.Steps.{none, Steps, adds, waits, lists, ends, stops}
+use Rattle.session_files.proofs.Step.{listed-counts, listed-takes, listed-there, listed-below, waiting-leaves, never-waits}
 use Rattle.session_files.proofs.Behind.{step-of-whole}
+use Rattle.session_files.proofs.Outputs.{listing-any-output}
 
 -- ---- the listing, by its first step
 
@@ -58,11 +61,21 @@ module _ (held : Held) (unread : List ℕ) (pieces : List (List ℕ)) {after : H
   lists-counts : after .records ≡ held .records + 1
   lists-counts = rw e at (listed-counts (none pieces) held unread lists-entry)
 
+-- a step that waits leaves all as it was, and takes nothing
+waits-same : (held : Held) (unread : List ℕ) (pieces : List (List ℕ)) {after : Held} {taken : ℕ}
+    → stepped (none pieces) held unread ≡ ((after, taken), needsMore) → _≡_ {A = Held × ℕ} (after, taken) (held, 0)
+waits-same held unread pieces e =
+    ap (λ (s : (Held × ℕ) × Status). s .0) (sym e) ∙ waiting-leaves (none pieces) held unread (ap (λ (s : (Held × ℕ) × Status). s .1) e)
+
 -- from anything held, with so many further records left
 pub steps-list : {held : Held} {unread : List ℕ} {pieces : List (List ℕ)} {listing : List ℕ} → Steps held unread pieces listing
     → (left : ℕ) → left + held .records ≡ 1000000 → listing ≡ listingFrom (suc left) held (unread ++ joined pieces)
-steps-list (lends {held = held} {unread = unread} {piece = piece} {pieces = pieces} w steps) left few =
+steps-list (adds {held = held} {unread = unread} {piece = piece} {pieces = pieces} steps) left few =
     steps-list steps left few ∙ ap (listingFrom (suc left) held) (append-assoc unread piece (joined pieces))
+steps-list (waits {held = held} {unread = unread} {pieces = pieces} {rest = rest} e steps) left few =
+    let same = waits-same held unread pieces e in
+    steps-list steps left (rw (ap (λ (all : Held × ℕ). all .0) same) few)
+    ∙ ap (λ (all : Held × ℕ). listingFrom (suc left) (all .0) (drop (all .1) unread ++ joined pieces)) same
 steps-list (lists {held = held} {unread = unread} {pieces = pieces} e steps) zero few =
     absurd (omega (arith, listed-below (none pieces) held unread (lists-entry held unread pieces e)))
 steps-list (lists {held = held} {after = after} {unread = unread} {pieces = pieces} {entry = entry} e steps) (suc left) few =
@@ -74,15 +87,15 @@ steps-list (ends {held = held} {unread = unread} {pieces = pieces} e) left few =
 steps-list (stops {held = held} {unread = unread} {pieces = pieces} e) left few =
     sym (listing-stops left held (unread ++ joined pieces) (ap (λ (s : (Held × ℕ) × Status). s .1) (step-of-whole held unread pieces (λ more. impossible cc)) ∙ e))
 
--- however a file is cut, its steps list its listing, from the bytes that are lent at first
-pub cut-lists : {first : List ℕ} {pieces : List (List ℕ)} {text : List ℕ} → Steps nothingHeld first pieces text → text ≡ listing (first ++ joined pieces)
-unfolding listing
-cut-lists steps = steps-list steps 1000000 refl
+-- however a file is cut and whenever its pieces are lent, its steps list its listing, from the bytes that are lent at first and over any output
+pub cut-lists : {output first : List ℕ} {pieces : List (List ℕ)} {text : List ℕ} → length output ≡ longestLine
+    → Steps (withOutput nothingHeld output) first pieces text → text ≡ listing (first ++ joined pieces)
+cut-lists {output} {first} {pieces} long steps = steps-list steps 1000000 refl ∙ listing-any-output output (first ++ joined pieces) long
 
 -- two cuts of the same bytes list the same text
-pub cuts-agree : {pieces others : List (List ℕ)} {text other : List ℕ} → joined pieces ≡ joined others
-    → Steps nothingHeld [] pieces text → Steps nothingHeld [] others other → text ≡ other
-cuts-agree same steps others = cut-lists steps ∙ ap listing same ∙ sym (cut-lists others)
+pub cuts-agree : {output old : List ℕ} {pieces others : List (List ℕ)} {text other : List ℕ} → length output ≡ longestLine → length old ≡ longestLine
+    → joined pieces ≡ joined others → Steps (withOutput nothingHeld output) [] pieces text → Steps (withOutput nothingHeld old) [] others other → text ≡ other
+cuts-agree long as-long same steps others = cut-lists long steps ∙ ap listing same ∙ sym (cut-lists as-long others)
 
 -- ---- the steps come to an end
 
@@ -103,17 +116,22 @@ module _ (held : Held) (next : (after : Held) → after .records ≡ held .recor
     ends-by needsMore e = more e
     ends-by (stopped refusal) e = (text (saysRefused refusal) (held .output), stops e)
 
+  -- where a step waits, steps from what is held go on
+  waits-here : {unread : List ℕ} {pieces : List (List ℕ)} → stepped (none pieces) held unread .1 ≡ needsMore → Lists held unread pieces → Lists held unread pieces
+  waits-here {unread} {pieces} w rest =
+      (rest .0, waits (ap₂ (λ (all : Held × ℕ) (status : Status). (all, status)) (waiting-leaves (none pieces) held unread w) w) (rest .1))
+
   -- from what is held the steps end, whatever the pieces
   ends-lent : (unread : List ℕ) (pieces : List (List ℕ)) → Lists held unread pieces
   ends-lent unread [] = ends-by unread [] (λ w. absurd (never-waits true held unread refl w)) (stepped true held unread .1) refl
   ends-lent unread (piece ∷ pieces) =
-      ends-by unread (piece ∷ pieces) (λ w. let rest = ends-lent (unread ++ piece) pieces in (rest .0, lends w (rest .1))) (stepped false held unread .1) refl
+      ends-by unread (piece ∷ pieces) (λ w. let rest = ends-lent (unread ++ piece) pieces in waits-here w (rest .0, adds (rest .1))) (stepped false held unread .1) refl
 
 -- with so many records left the steps end
 ends-within : (left : ℕ) (held : Held) → left + held .records ≡ 1000000 → (unread : List ℕ) (pieces : List (List ℕ)) → Lists held unread pieces
 ends-within zero held few = ends-lent held (λ after counts below. absurd (omega arith))
 ends-within (suc left) held few = ends-lent held (λ after counts below. ends-within left after (omega arith))
 
--- whatever the pieces, the steps come to an end
-pub steps-end : (pieces : List (List ℕ)) → (listing : List ℕ) × Steps nothingHeld [] pieces listing
-steps-end = ends-within 1000000 nothingHeld refl []
+-- whatever is held, lent and to come, steps go on to an end, where each piece is lent when a step waits for it
+pub steps-go-on : (held : Held) → held .records ≤ 1000000 → (unread : List ℕ) (pieces : List (List ℕ)) → (listing : List ℕ) × Steps held unread pieces listing
+steps-go-on held few = ends-within (1000000 - held .records) held (omega arith)

@@ -20,25 +20,24 @@ use Rattle.session_records.specs.declared.record.RecordAt.the-variants.{Is, Mor
 use Rattle.session_records.proofs.Whole.{body-long}
 use Rattle.session_records.proofs.Accepted.{found-accepted}
 use Rattle.session_records.proofs.Limits.{table-fits, normal-fits, overlay-fits}
-use Rattle.session_rooms.specs.Rooms.{longestLine}
 use Rattle.line.specs.Cells.{lentOf}
 use Rattle.line.specs.Request.{requestOf}
 use Rattle.session.specs.Held.{Held, nothingHeld, withChip}
 use Rattle.session.specs.Record.{acted, contextOf, stepped}
 use Rattle.line_reads.proofs.Answers.{state-stays}
 use Rattle.line_reads.proofs.Outputs.{output-length}
+use Rattle.session_files.specs.Outputs.{withOutput}
 use Rattle.session_files.specs.Calls.{Roomy}
 use Rattle.session_files.proofs.Step.{by-found}
 
--- at first what is held has its sizes
-pub empty-roomy : Roomy nothingHeld
-empty-roomy =
+-- at first what is held has its sizes, over any output
+pub empty-roomy : (output : List ℕ) → Roomy (withOutput nothingHeld output)
+empty-roomy output =
     record {
       store-long = length-replicate {A = ℕ} storeLength 0;
       table-held = omega arith;
       normal-held = omega arith;
       overlay-held = omega arith;
-      output-long = length-replicate {A = ℕ} longestLine 0;
       state-whole = fresh-whole;
     }
 
@@ -52,7 +51,6 @@ module _ (held : Held) (roomy : Roomy held) where
         table-held = roomy .table-held;
         normal-held = roomy .normal-held;
         overlay-held = roomy .overlay-held;
-        output-long = roomy .output-long;
         state-whole = call-whole (held .chip) call (roomy .state-whole);
       }
 
@@ -73,7 +71,6 @@ module _ (held : Held) (roomy : Roomy held) where
           table-held = omega (arith, length-append (held .table) (bodyOf bytes), body-is is, table-fits (contextOf held last) bytes is);
           normal-held = roomy .normal-held;
           overlay-held = roomy .overlay-held;
-          output-long = roomy .output-long;
           state-whole = roomy .state-whole;
         }
     record-roomy Normal is =
@@ -82,7 +79,6 @@ module _ (held : Held) (roomy : Roomy held) where
           table-held = roomy .table-held;
           normal-held = rw (body-is is) (normal-fits (contextOf held last) bytes is);
           overlay-held = roomy .overlay-held;
-          output-long = roomy .output-long;
           state-whole = roomy .state-whole;
         }
     record-roomy Overlay is =
@@ -91,7 +87,6 @@ module _ (held : Held) (roomy : Roomy held) where
           table-held = roomy .table-held;
           normal-held = roomy .normal-held;
           overlay-held = rw (body-is is) (overlay-fits (contextOf held last) bytes is);
-          output-long = roomy .output-long;
           state-whole = roomy .state-whole;
         }
     record-roomy (Line y) is =
@@ -101,7 +96,6 @@ module _ (held : Held) (roomy : Roomy held) where
           table-held = roomy .table-held;
           normal-held = roomy .normal-held;
           overlay-held = roomy .overlay-held;
-          output-long = output-length (requestOf (held .chip .0) y) lent (held .output) ∙ roomy .output-long;
           state-whole = subst HasArrays (sym (state-stays (requestOf (held .chip .0) y) lent (held .output))) (roomy .state-whole);
         }
 
@@ -114,3 +108,21 @@ stays-roomy last held bytes roomy = by (recordAt (contextOf held last) bytes) re
     by (Is which count) e = rw (by-found last held bytes e) (record-roomy held roomy last bytes which e)
     by More e = rw (by-found last held bytes e) roomy
     by (Refused refusal) e = rw (by-found last held bytes e) roomy
+
+-- every step leaves an output as long
+pub stays-long : (last : Bool) (held : Held) (bytes : List ℕ) → length (stepped last held bytes .0 .0 .output) ≡ length (held .output)
+stays-long last held bytes = by (recordAt (contextOf held last) bytes) refl
+  where
+    -- by what was found, and then by the record: only a line writes to the output
+    by : (answer : RecordAt) → recordAt (contextOf held last) bytes ≡ answer → length (stepped last held bytes .0 .0 .output) ≡ length (held .output)
+    by (Is End count) e = rw (by-found last held bytes e) refl
+    by (Is (Write address value) count) e = rw (by-found last held bytes e) refl
+    by (Is (Dots dot-count) count) e = rw (by-found last held bytes e) refl
+    by (Is Table count) e = rw (by-found last held bytes e) refl
+    by (Is Normal count) e = rw (by-found last held bytes e) refl
+    by (Is Overlay count) e = rw (by-found last held bytes e) refl
+    by (Is (Line y) count) e =
+        rw (by-found last held bytes e)
+        (output-length (requestOf (held .chip .0) y) (lentOf (held .chip .1) (held .table) (held .normal) (held .overlay)) (held .output))
+    by More e = rw (by-found last held bytes e) refl
+    by (Refused refusal) e = rw (by-found last held bytes e) refl

@@ -1,7 +1,6 @@
 -- Calls of the step over a file that is lent in pieces.
 use Prim.Native.Nat.{ℕ, _≤_}
 use mathlib.Core.Path.{_≡_}
-use mathlib.Core.Bool.{false}
 use mathlib.Core.List.{List, [], _∷_, _++_}
 use lib.ListN.{length, drop, replicate}
 use Rattle.rules.specs.Rule.{ok}
@@ -20,11 +19,18 @@ use Rattle.session_files.specs.Steps.{none}
 
 -- calls one after another, each with the session, the rooms and the place that the one before it left: from the bytes that are lent and the pieces to come, they list a text
 pub data Calls : Session → Rooms → List ℕ → ℕ → List (List ℕ) → List ℕ → Type 0 where
-  -- a call waits: bytes are lent in which what was unread stands at a place, and the next piece behind it
-  lends : {session next : Session} {rooms left : Rooms} {bytes more piece : List ℕ} {place at from : ℕ} {pieces : List (List ℕ)} {rest : List ℕ}
-      → sessionStep session rooms bytes place false ≡ (((next, at), left), ok needsMore)
-      → drop from more ≡ drop at bytes ++ piece
-      → Calls next left more from pieces rest → Calls session rooms bytes place (piece ∷ pieces) rest
+  -- before whatever call, bytes are lent in which what is unread stands at a place, and the next piece behind it
+  adds : {session : Session} {rooms : Rooms} {bytes more piece : List ℕ} {place from : ℕ} {pieces : List (List ℕ)} {rest : List ℕ}
+      → drop from more ≡ drop place bytes ++ piece
+      → Calls session rooms more from pieces rest → Calls session rooms bytes place (piece ∷ pieces) rest
+  -- before whatever call, bytes are lent in which the same unread ones stand at another place
+  moves : {session : Session} {rooms : Rooms} {bytes others : List ℕ} {place from : ℕ} {pieces : List (List ℕ)} {rest : List ℕ}
+      → drop from others ≡ drop place bytes
+      → Calls session rooms others from pieces rest → Calls session rooms bytes place pieces rest
+  -- a call waits
+  waits : {session next : Session} {rooms left : Rooms} {bytes : List ℕ} {place at : ℕ} {pieces : List (List ℕ)} {rest : List ℕ}
+      → sessionStep session rooms bytes place (none pieces) ≡ (((next, at), left), ok needsMore)
+      → Calls next left bytes at pieces rest → Calls session rooms bytes place pieces rest
   -- a call lists an entry
   lists : {session next : Session} {rooms left : Rooms} {bytes : List ℕ} {place at : ℕ} {pieces : List (List ℕ)} {rest : List ℕ} {entry : EntrySays}
       → sessionStep session rooms bytes place (none pieces) ≡ (((next, at), left), ok (listed entry))
@@ -38,22 +44,21 @@ pub data Calls : Session → Rooms → List ℕ → ℕ → List (List ℕ) → 
       → sessionStep session rooms bytes place (none pieces) ≡ (((next, at), left), ok (stopped refusal))
       → Calls session rooms bytes place pieces (text (saysRefused refusal) (left .output))
 
--- rooms at a session's start: store and output all zero
-pub record Zeroed (rooms : Rooms) : Type 0 where
-  pub store-zero : rooms .store ≡ replicate storeLength 0
-  pub output-zero : rooms .output ≡ replicate longestLine 0
+-- rooms at a session's start: the store all zero
+abbrev pub Zeroed : Rooms → Type 0
+Zeroed rooms = rooms .store ≡ replicate storeLength 0
 
--- rooms of the right lengths for table and rows
+-- rooms of the right lengths for table, rows and output, whatever they hold
 pub record RightLengths (rooms : Rooms) : Type 0 where
   pub table-long : length (rooms .table) ≡ longestTable
   pub normal-long : length (rooms .normal) ≡ longestNormal
   pub overlay-long : length (rooms .overlay) ≡ longestOverlay
+  pub output-long : length (rooms .output) ≡ longestLine
 
--- what is held has its sizes: store and output their lengths, table and rows no more than there is room for, and the state its arrays
+-- what is held has its sizes: the store its length, table and rows no more than there is room for, and the state its arrays
 pub record Roomy (held : Held) : Type 0 where
   pub store-long : length (held .chip .1) ≡ storeLength
   pub table-held : length (held .table) ≤ longestTable
   pub normal-held : length (held .normal) ≤ longestNormal
   pub overlay-held : length (held .overlay) ≤ longestOverlay
-  pub output-long : length (held .output) ≡ longestLine
   pub state-whole : HasArrays (held .chip .0)

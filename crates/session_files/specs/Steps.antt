@@ -17,10 +17,13 @@ none (piece ∷ pieces) = false
 
 -- steps one after another: from what is held, the bytes that are lent and unread, and the pieces to come, they list a text
 pub data Steps : Held → List ℕ → List (List ℕ) → List ℕ → Type 0 where
-  -- a step waits: the next piece is lent behind what is unread
-  lends : {held : Held} {unread piece : List ℕ} {pieces : List (List ℕ)} {rest : List ℕ}
-      → stepped false held unread .1 ≡ needsMore
+  -- the next piece is lent behind what is unread, before whatever step
+  adds : {held : Held} {unread piece : List ℕ} {pieces : List (List ℕ)} {rest : List ℕ}
       → Steps held (unread ++ piece) pieces rest → Steps held unread (piece ∷ pieces) rest
+  -- a step waits: the next one goes on from what it left
+  waits : {held after : Held} {unread : List ℕ} {pieces : List (List ℕ)} {rest : List ℕ} {taken : ℕ}
+      → stepped (none pieces) held unread ≡ ((after, taken), needsMore)
+      → Steps after (drop taken unread) pieces rest → Steps held unread pieces rest
   -- a step lists an entry: the next one starts behind its record
   lists : {held after : Held} {unread : List ℕ} {pieces : List (List ℕ)} {rest : List ℕ} {taken : ℕ} {entry : EntrySays}
       → stepped (none pieces) held unread ≡ ((after, taken), listed entry)
