@@ -1,10 +1,9 @@
 -- What an answer in numbers tells of the session's call behind it. Assumes nothing.
 use Prim.Native.Nat.{ℕ, _<_, _≤_}
 use mathlib.Core.Path.{_≡_, refl, ap, ap₂, sym, _∙_}
-use mathlib.Core.Bool.{Bool, true, false, not}
+use mathlib.Core.Bool.{Bool, not}
 use mathlib.Core.List.{List, [], _∷_}
 use mathlib.Core.Logic.{_⊎_, inl, inr}
-use native.Mathlib.Omega.{arith}
 use borrow.Author.Tests.{ne-eqb}
 use lib.Dec.{eqb}
 use lib.ListN.{length, take, drop}
@@ -17,7 +16,7 @@ use Rattle.session.specs.Lent.{Rooms}
 use Rattle.session.specs.Step.{Left, sessionStep}
 use Rattle.session.specs.declared.session.Session.{Session}
 use Rattle.session_files.specs.Steps.{none}
-use Rattle.c_session.specs.Steps.{textRoom, statusInNumbers, textBy, stepLeft, stepInNumbers}
+use Rattle.c_session.specs.Steps.{textRoom, statusInNumbers, stepLeft}
 use Rattle.c_session.specs.declared.steps.SteppedNumbers.{SteppedNumbers}
 use Rattle.c_session.proofs.Texts.{step-short, step-of-session}
 use Rattle.c_files.specs.CallsOfC.{SaysLast, CallOfC}

@@ -1,33 +1,28 @@
--- From a session's start no call is refused, so that every file has its listing by calls, however it is cut. Assumes nothing.
-use Prim.Native.Nat.{ℕ, _+_, _≤_}
+-- From a session's start no call is refused. Assumes nothing.
+use Prim.Native.Nat.{ℕ, _≤_}
 use mathlib.Core.Path.{_≡_, refl, sym, ap, subst, _∙_}
 use mathlib.Core.Bool.{Bool}
-use mathlib.Core.List.{List, _++_}
+use mathlib.Core.List.{List}
 use native.Mathlib.Omega.{arith}
 use borrow.Author.Tests.{le-ltb, eq-eqb}
 use lib.ListN.{length, drop, length-append, length-drop}
 use Rattle.rules.specs.Rule.{ok}
 use Rattle.rules.specs.Faults.{Clear}
-use Rattle.rules.specs.Lists.{joined}
 use Rattle.rules.proofs.Faults.{none-holds}
 use Rattle.chip_registers.specs.Store.{storeLength}
 use Rattle.session_records.specs.Tags.{longestTable, longestNormal, longestOverlay}
-use Rattle.session_listing.specs.Text.{saysRefused, text}
-use Rattle.session_answers.specs.Status.{Status, listed, needsMore, stopped}
+use Rattle.session_answers.specs.Status.{Status}
 use Rattle.session_rooms.specs.Rooms.{longestLine, tooMuchHeld, roomFaults}
 use Rattle.session.specs.Held.{Held, nothingHeld}
 use Rattle.session.specs.Record.{stepped}
-use Rattle.session.specs.Listing.{listing}
 use Rattle.session.specs.Lent.{Rooms, heldIn, laid, roomsWith, sessionOf}
 use Rattle.session.specs.Step.{stepFaults, Left, afterStep, sessionStep}
 use Rattle.session.specs.Inner.{HeldWithin}
 use Rattle.session.specs.declared.session.Session.{Session}
-use Rattle.session_files.specs.Steps.{none, Steps}
+use Rattle.session_files.specs.Steps.{none}
 use Rattle.session_files.specs.Steps as steps
-use Rattle.session_files.specs.Calls.{Calls, adds, waits, lists, ends, stops, Zeroed, RightLengths, Roomy}
-use Rattle.session_files.proofs.Step.{stopped-leaves}
-use Rattle.session_files.proofs.Cuts.{steps-go-on}
-use Rattle.session_files.proofs.Calls.{held-again, same-held, same-output, same-place, first-held, calls-list}
+use Rattle.session_files.specs.Calls.{Zeroed, RightLengths, Roomy}
+use Rattle.session_files.proofs.Calls.{held-again, first-held}
 use Rattle.session_files.proofs.Sizes.{empty-roomy, stays-roomy, stays-long}
 
 -- a session and rooms at which no call is refused: what is held has its sizes and lies within rooms of the right lengths
@@ -112,43 +107,6 @@ module _ (session : Session) (rooms : Rooms) (bytes : List ℕ) (place : ℕ) (l
       (stays-roomy last (heldIn session rooms) (drop place bytes) (ready .roomy)) (ready .right)
       (stays-long last (heldIn session rooms) (drop place bytes) ∙ ready .right .output-long)
 
--- steps over what is held are calls: where a piece is added, only the unread bytes stay lent
-pub steps-calls : {held : Held} {unread : List ℕ} {pieces : List (List ℕ)} {written : List ℕ} → Steps held unread pieces written
-    → (session : Session) (rooms : Rooms) (bytes : List ℕ) (place : ℕ) → Ready session rooms → heldIn session rooms ≡ held → drop place bytes ≡ unread
-    → Calls session rooms bytes place pieces written
-steps-calls (steps.adds {piece = piece} others) session rooms bytes place ready same here =
-    adds refl (steps-calls others session rooms (drop place bytes ++ piece) 0 ready same (ap (λ (front : List ℕ). front ++ piece) here))
-steps-calls (steps.waits {after = after} {unread = unread} {pieces = pieces} {taken = taken} stepped-so others) session rooms bytes place ready same here =
-    let last = none pieces in
-    let step-is : stepped last (heldIn session rooms) (drop place bytes) ≡ ((after, taken), needsMore) = rw (same, here) stepped-so in
-    let is = call-comes session rooms bytes place last ready (ap (λ (all : (Held × ℕ) × Status). all .1) step-is) in
-    let next = left session rooms bytes place last in
-    let held-is : heldIn (next .0 .0) (next .1) ≡ after = same-held session rooms bytes place last is ∙ ap (λ (all : (Held × ℕ) × Status). all .0 .0) step-is in
-    let unread-is : drop (next .0 .1) bytes ≡ drop taken unread =
-    same-place session rooms bytes place last is ∙ rw (step-is, here) refl in
-    waits is (steps-calls others (next .0 .0) (next .1) bytes (next .0 .1) (stays-ready session rooms bytes place last ready) held-is unread-is)
-steps-calls (steps.lists {after = after} {unread = unread} {pieces = pieces} {rest = rest} {taken = taken} {entry = entry} stepped-so others) session rooms bytes place ready same here =
-    let last = none pieces in
-    let step-is : stepped last (heldIn session rooms) (drop place bytes) ≡ ((after, taken), listed entry) = rw (same, here) stepped-so in
-    let is = call-comes session rooms bytes place last ready (ap (λ (all : (Held × ℕ) × Status). all .1) step-is) in
-    let next = left session rooms bytes place last in
-    let held-is : heldIn (next .0 .0) (next .1) ≡ after = same-held session rooms bytes place last is ∙ ap (λ (all : (Held × ℕ) × Status). all .0 .0) step-is in
-    let unread-is : drop (next .0 .1) bytes ≡ drop taken unread =
-    same-place session rooms bytes place last is ∙ rw (step-is, here) refl in
-    subst (λ (output : List ℕ). Calls session rooms bytes place pieces (text entry output ++ rest)) (ap (λ (held : Held). held .output) held-is)
-    (lists is (steps-calls others (next .0 .0) (next .1) bytes (next .0 .1) (stays-ready session rooms bytes place last ready) held-is unread-is))
-steps-calls (steps.ends {pieces = pieces} ended-so) session rooms bytes place ready same here =
-    ends (call-comes session rooms bytes place (none pieces) ready (rw (same, here) ended-so))
-steps-calls (steps.stops {held = held} {pieces = pieces} {refusal = refusal} stopped-so) session rooms bytes place ready same here =
-    let last = none pieces in
-    let stops-so : stepped last (heldIn session rooms) (drop place bytes) .1 ≡ stopped refusal = rw (same, here) stopped-so in
-    let is = call-comes session rooms bytes place last ready stops-so in
-    let output-is : left session rooms bytes place last .1 .output ≡ held .output =
-    same-output session rooms bytes place last is
-    ∙ ap (λ (all : Held × ℕ). all .0 .output) (stopped-leaves last (heldIn session rooms) (drop place bytes) stops-so)
-    ∙ ap (λ (other : Held). other .output) same in
-    subst (λ (output : List ℕ). Calls session rooms bytes place pieces (text (saysRefused refusal) output)) output-is (stops is)
-
 -- a new session is ready in rooms of the right lengths with a zeroed store
 pub first-ready : {rooms : Rooms} → Zeroed rooms → RightLengths rooms → Ready (sessionOf nothingHeld) rooms
 first-ready {rooms} zeroed right =
@@ -157,17 +115,3 @@ first-ready {rooms} zeroed right =
       within = record { table-within = omega arith; normal-within = omega arith; overlay-within = omega arith };
       right = right;
     }
-
--- wherever a run is, calls go on to its end, whatever is lent and to come
-pub calls-go-on : (session : Session) (rooms : Rooms) → Ready session rooms → session .records ≤ 1000000 → (bytes : List ℕ) (place : ℕ) (pieces : List (List ℕ))
-    → (written : List ℕ) × Calls session rooms bytes place pieces written
-calls-go-on session rooms ready few bytes place pieces =
-    let all = steps-go-on (heldIn session rooms) few (drop place bytes) pieces in
-    (all .0, steps-calls (all .1) session rooms bytes place ready refl refl)
-
--- calls on a new session list the file's listing, however it is cut
-pub calls-give : (rooms : Rooms) → Zeroed rooms → RightLengths rooms → (bytes : List ℕ) (pieces : List (List ℕ))
-    → Calls (sessionOf nothingHeld) rooms bytes 0 pieces (listing (bytes ++ joined pieces))
-calls-give rooms zeroed right bytes pieces =
-    let all = calls-go-on (sessionOf nothingHeld) rooms (first-ready zeroed right) (omega arith) bytes 0 pieces in
-    subst (Calls (sessionOf nothingHeld) rooms bytes 0 pieces) (calls-list zeroed (all .1)) (all .1)

@@ -1,8 +1,8 @@
--- However a file is cut into pieces, its steps come to an end and list its listing. Assumes nothing.
-use Prim.Native.Nat.{ℕ, zero, suc, _+_, _-_, _≤_}
-use mathlib.Core.Path.{_≡_, refl, ap, ap₂, sym, _∙_}
-use mathlib.Core.Bool.{true, false}
-use mathlib.Core.List.{List, [], _∷_, _++_, append-assoc, append-nil}
+-- However a file is cut into pieces, its steps list its listing. Assumes nothing.
+use Prim.Native.Nat.{ℕ, zero, suc, _+_, _≤_}
+use mathlib.Core.Path.{_≡_, refl, ap, sym, _∙_}
+use mathlib.Core.Bool.{true}
+use mathlib.Core.List.{List, [], _++_, append-assoc, append-nil}
 use native.Mathlib.Omega.{arith}
 use lib.ListN.{length, drop}
 use lib.Seq.{drop-append-le}
@@ -17,7 +17,7 @@ use Rattle.session.specs.Record.{stepped}
 use Rattle.session.specs.Listing.{listingFrom, listing}
 use Rattle.session_files.specs.Outputs.{withOutput}
 use Rattle.session_files.specs.Steps.{none, Steps, adds, waits, lists, ends, stops}
-use Rattle.session_files.proofs.Step.{listed-counts, listed-takes, listed-there, listed-below, waiting-leaves, never-waits}
+use Rattle.session_files.proofs.Step.{listed-counts, listed-takes, listed-there, listed-below, waiting-leaves}
 use Rattle.session_files.proofs.Behind.{step-of-whole}
 use Rattle.session_files.proofs.Outputs.{listing-any-output}
 
@@ -96,42 +96,3 @@ cut-lists {output} {first} {pieces} long steps = steps-list steps 1000000 refl �
 pub cuts-agree : {output old : List ℕ} {pieces others : List (List ℕ)} {text other : List ℕ} → length output ≡ longestLine → length old ≡ longestLine
     → joined pieces ≡ joined others → Steps (withOutput nothingHeld output) [] pieces text → Steps (withOutput nothingHeld old) [] others other → text ≡ other
 cuts-agree long as-long same steps others = cut-lists long steps ∙ ap listing same ∙ sym (cut-lists as-long others)
-
--- ---- the steps come to an end
-
--- there is a text that they list
-abbrev Lists : Held → List ℕ → List (List ℕ) → Type 0
-Lists held unread pieces = (listing : List ℕ) × Steps held unread pieces listing
-
-module _ (held : Held) (next : (after : Held) → after .records ≡ held .records + 1 → held .records + 1 ≤ 1000000 → (unread : List ℕ) (pieces : List (List ℕ)) → Lists after unread pieces) where
-  module _ (unread : List ℕ) (pieces : List (List ℕ)) (more : stepped (none pieces) held unread .1 ≡ needsMore → Lists held unread pieces) where
-    -- by what the step comes to
-    ends-by : (status : Status) → stepped (none pieces) held unread .1 ≡ status → Lists held unread pieces
-    ends-by (listed entry) e =
-        let taken = stepped (none pieces) held unread .0 .1 in
-        let after = stepped (none pieces) held unread .0 .0 in
-        let rest = next after (listed-counts (none pieces) held unread e) (omega (arith, listed-below (none pieces) held unread e)) (drop taken unread) pieces in
-        (text entry (after .output) ++ rest .0, lists (ap (λ (status : Status). ((after, taken), status)) e) (rest .1))
-    ends-by ended e = ([], ends e)
-    ends-by needsMore e = more e
-    ends-by (stopped refusal) e = (text (saysRefused refusal) (held .output), stops e)
-
-  -- where a step waits, steps from what is held go on
-  waits-here : {unread : List ℕ} {pieces : List (List ℕ)} → stepped (none pieces) held unread .1 ≡ needsMore → Lists held unread pieces → Lists held unread pieces
-  waits-here {unread} {pieces} w rest =
-      (rest .0, waits (ap₂ (λ (all : Held × ℕ) (status : Status). (all, status)) (waiting-leaves (none pieces) held unread w) w) (rest .1))
-
-  -- from what is held the steps end, whatever the pieces
-  ends-lent : (unread : List ℕ) (pieces : List (List ℕ)) → Lists held unread pieces
-  ends-lent unread [] = ends-by unread [] (λ w. absurd (never-waits true held unread refl w)) (stepped true held unread .1) refl
-  ends-lent unread (piece ∷ pieces) =
-      ends-by unread (piece ∷ pieces) (λ w. let rest = ends-lent (unread ++ piece) pieces in waits-here w (rest .0, adds (rest .1))) (stepped false held unread .1) refl
-
--- with so many records left the steps end
-ends-within : (left : ℕ) (held : Held) → left + held .records ≡ 1000000 → (unread : List ℕ) (pieces : List (List ℕ)) → Lists held unread pieces
-ends-within zero held few = ends-lent held (λ after counts below. absurd (omega arith))
-ends-within (suc left) held few = ends-lent held (λ after counts below. ends-within left after (omega arith))
-
--- whatever is held, lent and to come, steps go on to an end, where each piece is lent when a step waits for it
-pub steps-go-on : (held : Held) → held .records ≤ 1000000 → (unread : List ℕ) (pieces : List (List ℕ)) → (listing : List ℕ) × Steps held unread pieces listing
-steps-go-on held few = ends-within (1000000 - held .records) held (omega arith)

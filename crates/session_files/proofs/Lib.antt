@@ -6,6 +6,7 @@ pub mod Cuts
 pub mod Calls
 pub mod Sizes
 pub mod Answered
+pub mod GoOn
 pub mod Exact
 pub mod Ends
 pub mod Lines

@@ -1,6 +1,7 @@
 -- Calls of the step over a file that is lent in pieces.
 use Prim.Native.Nat.{ℕ, _≤_}
 use mathlib.Core.Path.{_≡_}
+use mathlib.Core.Bool.{Bool, true, false}
 use mathlib.Core.List.{List, [], _∷_, _++_}
 use lib.ListN.{length, drop, replicate}
 use Rattle.rules.specs.Rule.{ok}
@@ -43,6 +44,16 @@ pub data Calls : Session → Rooms → List ℕ → ℕ → List (List ℕ) → 
   stops : {session next : Session} {rooms left : Rooms} {bytes : List ℕ} {place at : ℕ} {pieces : List (List ℕ)} {refusal : Numbered}
       → sessionStep session rooms bytes place (none pieces) ≡ (((next, at), left), ok (stopped refusal))
       → Calls session rooms bytes place pieces (text (saysRefused refusal) (left .output))
+
+-- of some calls, a piece is lent exactly where the call before has waited for it; the first of them may come after such a call or not
+abbrev pub LentOnDemand : {session : Session} {rooms : Rooms} {bytes : List ℕ} {place : ℕ} {pieces : List (List ℕ)} {written : List ℕ}
+    → Bool → Calls session rooms bytes place pieces written → Type 0
+LentOnDemand waited (adds behind others) = (waited ≡ true) × LentOnDemand false others
+LentOnDemand waited (moves same others) = LentOnDemand waited others
+LentOnDemand waited (waits is others) = (waited ≡ false) × LentOnDemand true others
+LentOnDemand waited (lists is others) = (waited ≡ false) × LentOnDemand false others
+LentOnDemand waited (ends is) = waited ≡ false
+LentOnDemand waited (stops is) = waited ≡ false
 
 -- rooms at a session's start: the store all zero
 abbrev pub Zeroed : Rooms → Type 0
