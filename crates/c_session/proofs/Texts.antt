@@ -20,7 +20,7 @@ use Rattle.session_rooms.specs.Rooms.{longestLine}
 use Rattle.session.specs.Lent.{Rooms, laid}
 use Rattle.session.specs.Step.{stepFaults, Left, afterStep, sessionStep}
 use Rattle.session.specs.declared.session.Session.{Session}
-use Rattle.session.proofs.Stepping.{answered-output}
+use Rattle.session.proofs.Stepping.{answered-fitted}
 use Rattle.c_session.specs.Steps.{textRoom, shortText, textFault, statusInNumbers, textBy, stepAnswer, stepLeft, stepInNumbers}
 use Rattle.c_session.specs.Inner.{putEntry, putText, orText}
 use Rattle.c_session.specs.declared.steps.SteppedNumbers.{SteppedNumbers}
@@ -87,6 +87,6 @@ module _ (session : Session) (rooms : Rooms) (lent bytes : List ℕ) (place : �
       ap (λ (one : ℕ × List ℕ). (stepAnswer (left .0 .0) (statusInNumbers (left .1)) (one .0), (left .0 .1, one .1)))
       (text-is
       ∙ text-put (left .0 .1 .output) lent long (left .1)
-      (λ status e. omega (arith, same, answered-output session rooms bytes place last (ap (λ (all : Left × Outcome Numbered Status). all .1) (sym stepped) ∙ e))))
+      (λ status e. omega (arith, same, answered-fitted session rooms bytes place last (ap (λ (all : Left × Outcome Numbered Status). all .1) (sym stepped) ∙ e) .output-long)))
       ∙ ap (λ (all : Left × Outcome Numbered Status). stepLeft all lent) stepped
       ∙ step-of-session long

@@ -10,7 +10,7 @@ use lib.Dec.{eqb, ltb}
 use lib.ListN.{length, take, drop, length-drop}
 use lib.Seq.{length-take-le, drop-drop}
 use Rattle.rules.specs.Rule.{Outcome, ok, refused}
-use Rattle.rules.specs.Faults.{Numbered}
+use Rattle.rules.specs.Faults.{Numbered, Clear}
 use Rattle.rules.specs.Checked.{verdict}
 use Rattle.rules.proofs.Faults.{none-holds, first-holds, accepted-clear}
 use Rattle.rules.proofs.Checked.{first-verdict, clear-verdict}
@@ -45,17 +45,17 @@ pub record Fitted (session : Session) (rooms : Rooms) : Type 0 where
   pub table-long : length (rooms .table) ≡ longestTable
   pub normal-long : length (rooms .normal) ≡ longestNormal
   pub overlay-long : length (rooms .overlay) ≡ longestOverlay
+  pub output-long : length (rooms .output) ≡ longestLine
 
 -- a room of no other length has this one
 right-room : (size count : ℕ) → not (eqb size count) ≡ false → size ≡ count
 right-room size count e = eqb-true size count (not-false (eqb size count) e)
 
 module _ (session : Session) (rooms : Rooms) where
-  -- where the first test passes, what is held and the rooms fit
-  pub fitted : verdict (stepFaults session rooms) ≡ ok tt → Fitted session rooms
+  -- where none of its faults holds, what is held and the rooms fit
+  clear-fitted : Clear (stepFaults session rooms) → Fitted session rooms
   unfolding roomFaults tooMuchHeld
-  fitted e =
-      let clear = clear-verdict (stepFaults session rooms) e in
+  clear-fitted clear =
       let rows = neither (ltb longestTable (session .counts .table) || ltb longestNormal (session .counts .normal)) (ltb longestOverlay (session .counts .overlay)) (clear .0) in
       let first = neither (ltb longestTable (session .counts .table)) (ltb longestNormal (session .counts .normal)) (rows .0) in
       record {
@@ -65,7 +65,12 @@ module _ (session : Session) (rooms : Rooms) where
         table-long = right-room _ _ (clear .1 .1 .0);
         normal-long = right-room _ _ (clear .1 .1 .1 .0);
         overlay-long = right-room _ _ (clear .1 .1 .1 .1 .0);
+        output-long = right-room _ _ (clear .1 .1 .1 .1 .1 .0);
       }
+
+  -- where the first test passes, what is held and the rooms fit
+  pub fitted : verdict (stepFaults session rooms) ≡ ok tt → Fitted session rooms
+  fitted e = clear-fitted (clear-verdict (stepFaults session rooms) e)
 
 -- the bytes of a record that is all there end within the lent ones
 pub ends-within : (bytes : List ℕ) (place count : ℕ) → 3 + count ≤ length (drop place bytes) → place + 3 + count ≤ length bytes
@@ -131,11 +136,11 @@ module _ (session : Session) (rooms : Rooms) (bytes : List ℕ) (place : ℕ) (l
   unfolding sessionStep
   step-done e = none-holds before (afterStep session rooms bytes place last) (stepFaults session rooms) (clear-verdict (stepFaults session rooms) e)
 
-  -- a step that is answered is lent an output of its length
-  pub answered-output : {status : Status} → sessionStep session rooms bytes place last .1 ≡ ok status → length (rooms .output) ≡ longestLine
-  unfolding sessionStep roomFaults
-  answered-output {status} e =
-      right-room _ _ (accepted-clear before (afterStep session rooms bytes place last) (stepFaults session rooms) status e .1 .1 .1 .1 .1 .0)
+  -- where a step is answered, what is held and the rooms fit
+  pub answered-fitted : {status : Status} → sessionStep session rooms bytes place last .1 ≡ ok status → Fitted session rooms
+  unfolding sessionStep
+  answered-fitted {status} e =
+      clear-fitted session rooms (accepted-clear before (afterStep session rooms bytes place last) (stepFaults session rooms) status e)
 
   -- what is left after so many bytes
   abbrev left-after : ℕ → Session × Rooms → Left

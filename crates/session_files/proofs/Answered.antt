@@ -19,8 +19,6 @@ use Rattle.session.specs.Lent.{Rooms, heldIn, laid, roomsWith, sessionOf}
 use Rattle.session.specs.Step.{stepFaults, Left, afterStep, sessionStep}
 use Rattle.session.specs.Inner.{HeldWithin}
 use Rattle.session.specs.declared.session.Session.{Session}
-use Rattle.session_files.specs.Steps.{none}
-use Rattle.session_files.specs.Steps as steps
 use Rattle.session_files.specs.Calls.{Zeroed, RightLengths, Roomy}
 use Rattle.session_files.proofs.Calls.{held-again, first-held}
 use Rattle.session_files.proofs.Sizes.{empty-roomy, stays-roomy, stays-long}

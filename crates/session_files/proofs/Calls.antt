@@ -12,18 +12,17 @@ use Rattle.rules.proofs.Faults.{none-holds, accepted-clear}
 use Rattle.session_listing.specs.Text.{saysRefused, text}
 use Rattle.session_answers.specs.Status.{Status, listed, needsMore}
 use Rattle.session_answers.proofs.ToListing.{status-of}
-use Rattle.session_rooms.specs.Rooms.{longestLine}
 use Rattle.session.specs.Held.{Held, nothingHeld}
 use Rattle.session.specs.Record.{stepped}
 use Rattle.session.specs.Listing.{listing}
 use Rattle.session.specs.Lent.{Rooms, heldIn, laid, roomsWith, sessionOf}
 use Rattle.session.specs.Step.{stepFaults, Left, afterStep, sessionStep}
 use Rattle.session.specs.declared.session.Session.{Session}
-use Rattle.session.proofs.Stepping.{answered-output}
+use Rattle.session.proofs.Stepping.{answered-fitted}
 use Rattle.session_files.specs.Outputs.{withOutput}
 use Rattle.session_files.specs.Steps.{none, Steps}
 use Rattle.session_files.specs.Steps as steps
-use Rattle.session_files.specs.Calls.{Calls, adds, moves, waits, lists, ends, stops, Zeroed}
+use Rattle.session_files.specs.Calls.{Calls, adds, moves, waits, lists, ends, stops, Zeroed, RightLengths}
 use Rattle.session_files.proofs.Step.{stopped-leaves}
 use Rattle.session_files.proofs.Cuts.{cut-lists}
 
@@ -52,7 +51,7 @@ module _ (session : Session) (rooms : Rooms) (bytes : List ℕ) (place : ℕ) (l
       ap (λ (all : Left × Outcome Numbered Status). (all .0, status-of status (all .1))) both
 
   -- it comes to what the step over what is held comes to
-  same-status : step .1 ≡ status
+  pub same-status : step .1 ≡ status
   unfolding afterStep
   same-status = ap (λ (all : Left × Status). all .1) (sym call-is)
 
@@ -102,19 +101,26 @@ calls-steps {session} {rooms} {bytes} {place} (stops {pieces = pieces} {refusal 
     ∙ ap (λ (all : Held × ℕ). all .0 .output) (stopped-leaves last (heldIn session rooms) (drop place bytes) stopped-so) in
     subst (λ (output : List ℕ). Steps (heldIn session rooms) (drop place bytes) pieces (text (saysRefused refusal) output)) (sym output-is) (steps.stops stopped-so)
 
--- the first call is answered, so the output has its length
-calls-output : {session : Session} {rooms : Rooms} {bytes : List ℕ} {place : ℕ} {pieces : List (List ℕ)} {written : List ℕ}
-    → Calls session rooms bytes place pieces written → length (rooms .output) ≡ longestLine
-calls-output (adds behind others) = calls-output others
-calls-output (moves same others) = calls-output others
-calls-output {session} {rooms} {bytes} {place} (waits {pieces = pieces} is others) =
-    answered-output session rooms bytes place (none pieces) (ap (λ (all : Left × Outcome Numbered Status). all .1) is)
-calls-output {session} {rooms} {bytes} {place} (lists {pieces = pieces} is others) =
-    answered-output session rooms bytes place (none pieces) (ap (λ (all : Left × Outcome Numbered Status). all .1) is)
-calls-output {session} {rooms} {bytes} {place} (ends {pieces = pieces} is) =
-    answered-output session rooms bytes place (none pieces) (ap (λ (all : Left × Outcome Numbered Status). all .1) is)
-calls-output {session} {rooms} {bytes} {place} (stops {pieces = pieces} is) =
-    answered-output session rooms bytes place (none pieces) (ap (λ (all : Left × Outcome Numbered Status). all .1) is)
+-- an answered call is lent rooms of the right lengths
+right-lengths : (session : Session) (rooms : Rooms) (bytes : List ℕ) (place : ℕ) (last : Bool) {left : Left} {status : Status}
+    → sessionStep session rooms bytes place last ≡ (left, ok status) → RightLengths rooms
+right-lengths session rooms bytes place last is =
+    let fit = answered-fitted session rooms bytes place last (ap (λ (all : Left × Outcome Numbered Status). all .1) is) in
+    record { table-long = fit .table-long; normal-long = fit .normal-long; overlay-long = fit .overlay-long; output-long = fit .output-long }
+
+-- the first call is answered, so the rooms have their lengths
+pub calls-right : {session : Session} {rooms : Rooms} {bytes : List ℕ} {place : ℕ} {pieces : List (List ℕ)} {written : List ℕ}
+    → Calls session rooms bytes place pieces written → RightLengths rooms
+calls-right (adds behind others) = calls-right others
+calls-right (moves same others) = calls-right others
+calls-right {session} {rooms} {bytes} {place} (waits {pieces = pieces} is others) =
+    right-lengths session rooms bytes place (none pieces) is
+calls-right {session} {rooms} {bytes} {place} (lists {pieces = pieces} is others) =
+    right-lengths session rooms bytes place (none pieces) is
+calls-right {session} {rooms} {bytes} {place} (ends {pieces = pieces} is) =
+    right-lengths session rooms bytes place (none pieces) is
+calls-right {session} {rooms} {bytes} {place} (stops {pieces = pieces} is) =
+    right-lengths session rooms bytes place (none pieces) is
 
 -- over a zeroed store a new session holds what there is at first, and the output's words
 pub first-held : (rooms : Rooms) → Zeroed rooms → heldIn (sessionOf nothingHeld) rooms ≡ withOutput nothingHeld (rooms .output)
@@ -124,4 +130,4 @@ first-held rooms zeroed = rw zeroed refl
 pub calls-list : {rooms : Rooms} {bytes : List ℕ} {pieces : List (List ℕ)} {written : List ℕ} → Zeroed rooms
     → Calls (sessionOf nothingHeld) rooms bytes 0 pieces written → written ≡ listing (bytes ++ joined pieces)
 calls-list {rooms} {bytes} {pieces} {written} zeroed calls =
-    cut-lists (calls-output calls) (subst (λ (held : Held). Steps held bytes pieces written) (first-held rooms zeroed) (calls-steps calls))
+    cut-lists (calls-right calls .output-long) (subst (λ (held : Held). Steps held bytes pieces written) (first-held rooms zeroed) (calls-steps calls))

@@ -7,6 +7,7 @@ pub mod Calls
 pub mod Sizes
 pub mod Answered
 pub mod GoOn
+pub mod Good
 pub mod Exact
 pub mod Ends
 pub mod Lines

@@ -10,7 +10,7 @@ use Rattle.chip_registers.specs.Store.{storeLength}
 use Rattle.chip.specs.State.{HasArrays}
 use Rattle.session_records.specs.Tags.{longestTable, longestNormal, longestOverlay}
 use Rattle.session_listing.specs.Text.{EntrySays, saysRefused, text}
-use Rattle.session_answers.specs.Status.{listed, ended, needsMore, stopped}
+use Rattle.session_answers.specs.Status.{Status, listed, ended, needsMore, stopped}
 use Rattle.session_rooms.specs.Rooms.{longestLine}
 use Rattle.session.specs.Held.{Held}
 use Rattle.session.specs.Lent.{Rooms}
@@ -54,6 +54,16 @@ LentOnDemand waited (waits is others) = (waited ≡ false) × LentOnDemand true 
 LentOnDemand waited (lists is others) = (waited ≡ false) × LentOnDemand false others
 LentOnDemand waited (ends is) = waited ≡ false
 LentOnDemand waited (stops is) = waited ≡ false
+
+-- each call of some comes to such a status
+abbrev pub EachComesTo : {session : Session} {rooms : Rooms} {bytes : List ℕ} {place : ℕ} {pieces : List (List ℕ)} {written : List ℕ}
+    → (Status → Type 0) → Calls session rooms bytes place pieces written → Type 0
+EachComesTo Such (adds behind others) = EachComesTo Such others
+EachComesTo Such (moves same others) = EachComesTo Such others
+EachComesTo Such (waits is others) = Such needsMore × EachComesTo Such others
+EachComesTo Such (lists {entry = entry} is others) = Such (listed entry) × EachComesTo Such others
+EachComesTo Such (ends is) = Such ended
+EachComesTo Such (stops {refusal = refusal} is) = Such (stopped refusal)
 
 -- rooms at a session's start: the store all zero
 abbrev pub Zeroed : Rooms → Type 0
