@@ -1,2 +1,4 @@
 pub mod Told
 pub mod Lists
+pub mod Give
+pub mod Answers

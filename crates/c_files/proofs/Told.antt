@@ -22,7 +22,7 @@ use Rattle.c_session.proofs.Texts.{step-short, step-of-session}
 use Rattle.c_files.specs.CallsOfC.{SaysLast, CallOfC}
 
 -- the number says what the pieces say
-says-none : (last : ℕ) (pieces : List (List ℕ)) → SaysLast last pieces → not (eqb last 0) ≡ none pieces
+pub says-none : (last : ℕ) (pieces : List (List ℕ)) → SaysLast last pieces → not (eqb last 0) ≡ none pieces
 says-none last [] says = rw (ne-eqb last 0 says) refl
 says-none last (piece ∷ pieces) says = rw says refl
 

@@ -36,12 +36,12 @@ pub data CallsOfC : Session → Rooms → List ℕ → ℕ → List (List ℕ) �
       → CallsOfC session rooms others from pieces rest → CallsOfC session rooms bytes place pieces rest
   -- a call of status 1 lists an entry
   lists : {session : Session} {rooms left : Rooms} {bytes : List ℕ} {place : ℕ} {pieces : List (List ℕ)} {answer : SteppedNumbers} {text rest : List ℕ}
-      → CallOfC session rooms bytes place pieces answer left text → answer .status ≡ 1
-      → CallsOfC (answer .session) left bytes (answer .next) pieces rest → CallsOfC session rooms bytes place pieces (text ++ rest)
+      → CallOfC session rooms bytes place pieces answer left text → answer .status ≡ 1 → CallsOfC (answer .session) left bytes (answer .next) pieces rest
+      → CallsOfC session rooms bytes place pieces (text ++ rest)
   -- a call of status 3 waits
   waits : {session : Session} {rooms left : Rooms} {bytes : List ℕ} {place : ℕ} {pieces : List (List ℕ)} {answer : SteppedNumbers} {text rest : List ℕ}
-      → CallOfC session rooms bytes place pieces answer left text → answer .status ≡ 3
-      → CallsOfC (answer .session) left bytes (answer .next) pieces rest → CallsOfC session rooms bytes place pieces (text ++ rest)
+      → CallOfC session rooms bytes place pieces answer left text → answer .status ≡ 3 → CallsOfC (answer .session) left bytes (answer .next) pieces rest
+      → CallsOfC session rooms bytes place pieces (text ++ rest)
   -- a call of status 2 finds the end record: it is the last
   ends : {session : Session} {rooms left : Rooms} {bytes : List ℕ} {place : ℕ} {pieces : List (List ℕ)} {answer : SteppedNumbers} {text : List ℕ}
       → CallOfC session rooms bytes place pieces answer left text → answer .status ≡ 2 → CallsOfC session rooms bytes place pieces text
@@ -49,12 +49,26 @@ pub data CallsOfC : Session → Rooms → List ℕ → ℕ → List (List ℕ) �
   stops : {session : Session} {rooms left : Rooms} {bytes : List ℕ} {place : ℕ} {pieces : List (List ℕ)} {answer : SteppedNumbers} {text : List ℕ}
       → CallOfC session rooms bytes place pieces answer left text → answer .status ≡ 4 → CallsOfC session rooms bytes place pieces text
 
--- a piece is lent exactly where the call before has waited for it
-abbrev pub LentWhereAsked : {session : Session} {rooms : Rooms} {bytes : List ℕ} {place : ℕ} {pieces : List (List ℕ)} {written : List ℕ}
+-- of some calls, a piece is lent exactly where the call before has waited for it; the first of them may come after such a call or not
+abbrev pub LentOnDemandToC : {session : Session} {rooms : Rooms} {bytes : List ℕ} {place : ℕ} {pieces : List (List ℕ)} {written : List ℕ}
     → Bool → CallsOfC session rooms bytes place pieces written → Type 0
-LentWhereAsked waited (adds behind others) = (waited ≡ true) × LentWhereAsked false others
-LentWhereAsked waited (moves same others) = LentWhereAsked waited others
-LentWhereAsked waited (lists call one others) = (waited ≡ false) × LentWhereAsked false others
-LentWhereAsked waited (waits call three others) = (waited ≡ false) × LentWhereAsked true others
-LentWhereAsked waited (ends call two) = waited ≡ false
-LentWhereAsked waited (stops call four) = waited ≡ false
+LentOnDemandToC waited (adds behind others) = (waited ≡ true) × LentOnDemandToC false others
+LentOnDemandToC waited (moves same others) = LentOnDemandToC waited others
+LentOnDemandToC waited (lists call one others) = (waited ≡ false) × LentOnDemandToC false others
+LentOnDemandToC waited (waits call three others) = (waited ≡ false) × LentOnDemandToC true others
+LentOnDemandToC waited (ends call two) = waited ≡ false
+LentOnDemandToC waited (stops call four) = waited ≡ false
+
+-- each call of some is answered so
+abbrev pub EachAnswers : {session : Session} {rooms : Rooms} {bytes : List ℕ} {place : ℕ} {pieces : List (List ℕ)} {written : List ℕ}
+    → (SteppedNumbers → Type 0) → CallsOfC session rooms bytes place pieces written → Type 0
+EachAnswers So (adds behind others) = EachAnswers So others
+EachAnswers So (moves same others) = EachAnswers So others
+EachAnswers So (lists {answer = answer} call one others) = So answer × EachAnswers So others
+EachAnswers So (waits {answer = answer} call three others) = So answer × EachAnswers So others
+EachAnswers So (ends {answer = answer} call two) = So answer
+EachAnswers So (stops {answer = answer} call four) = So answer
+
+-- an answer has no refusal by 11
+abbrev pub AnswerNot11 : SteppedNumbers → Type 0
+AnswerNot11 answer = answer .refusal .number ≡ 11 → ⊥

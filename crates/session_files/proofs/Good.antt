@@ -99,6 +99,10 @@ stays-good-held last held bytes roomy good = by (recordAt (contextOf held last) 
     by More e = rw (by-found last held bytes e) good
     by (Refused refusal) e = rw (by-found last held bytes e) good
 
+-- a new session has a chip that keeps its rule, in any rooms
+pub first-good : (rooms : Rooms) → GoodHeld (heldIn (sessionOf nothingHeld) rooms)
+first-good rooms = fresh-good
+
 module _ (session : Session) (rooms : Rooms) (bytes : List ℕ) (place : ℕ) (last : Bool) (ready : Ready session rooms) {after : Left} {status : Status}
     (is : sessionStep session rooms bytes place last ≡ (after, ok status)) where
   -- an answered call leaves what is ready for the next
@@ -133,4 +137,4 @@ calls-not-11 {session} {rooms} {bytes} {place} {pieces} ready good (stops is) = 
 -- from a zeroed store, no call on a new session lists a refusal by 11
 pub never-11 : {rooms : Rooms} {bytes : List ℕ} {pieces : List (List ℕ)} {written : List ℕ} → Zeroed rooms
     → (calls : Calls (sessionOf nothingHeld) rooms bytes 0 pieces written) → EachComesTo StatusNot11 calls
-never-11 {rooms} zeroed calls = calls-not-11 (first-ready zeroed (calls-right calls)) fresh-good calls
+never-11 {rooms} zeroed calls = calls-not-11 (first-ready zeroed (calls-right calls)) (first-good rooms) calls
