@@ -37,6 +37,7 @@ extern "C" {
 /* The version of the library: bulitampaw_version_1(), which answers 1. */
 uint32_t BULITAMPAW_LIBRARY_VERSION(void);
 
+/* The reference to it, which stays where compiler and linker leave out what nothing uses. */
 #ifdef __GNUC__
 #ifdef __has_attribute
 #if __has_attribute(retain)
