@@ -1,1 +1,3 @@
 pub mod Run
+pub mod Inner
+pub mod Ran

@@ -1,11 +1,15 @@
 // How far a file is run.
 ghost use mathlib.Core.Path.{_≡_};
-ghost use Rattle.replay.specs.Run.{begun, withFrom, withPut, courseEnded, courseGoesOn};
+ghost use Rattle.replay.specs.Run.{begun, goingSo, goesOnTurning, writtenOut};
 
 // How a run goes on.
 pub enum Going {
-    // It goes on.
+    // With the next turn.
     On,
+    // The text that waits leaves no room: it has to be written out.
+    Full,
+    // The next record is not all there: more bytes have to be read.
+    Read,
     // It is over.
     Over,
     // It breaks off: no more can be read.
@@ -42,25 +46,9 @@ impl Course {
         }
     }
 
-    // With the next record at a place.
-    pub(crate) fn with_from(mut self, from: usize) -> Self
-        ensures { λ r. ⌜ r ≡ withFrom self from ⌝ }
-    {
-        self.from = from;
-        self
-    }
-
-    // With text up to a place.
-    pub(crate) fn with_put(mut self, put: usize) -> Self
-        ensures { λ r. ⌜ r ≡ withPut self put ⌝ }
-    {
-        self.put = put;
-        self
-    }
-
-    // With the run ended.
-    pub(crate) fn ending(self, going: Going) -> Self
-        ensures { λ r. ⌜ r ≡ courseEnded self going ⌝ }
+    // Goes on so.
+    pub(crate) fn going_so(self, going: Going) -> Self
+        ensures { λ r. ⌜ r ≡ goingSo self going ⌝ }
     {
         Self {
             from: self.from,
@@ -71,13 +59,28 @@ impl Course {
         }
     }
 
-    // Whether the run goes on.
+    // With no text that waits, goes on so.
+    pub(crate) fn written_out(self, going: Going) -> Self
+        ensures { λ r. ⌜ r ≡ writtenOut self going ⌝ }
+    {
+        Self {
+            from: self.from,
+            to: self.to,
+            last: self.last,
+            put: 0,
+            going,
+        }
+    }
+
+    // Whether another turn can be made.
     pub(crate) fn goes_on(self) -> bool
-        ensures { λ r. ⌜ r ≡ courseGoesOn (self .going) ⌝ }
+        ensures { λ r. ⌜ r ≡ goesOnTurning (self .going) ⌝ }
     {
         let going = self.going;
         match going {
             Going::On => true,
+            Going::Full => false,
+            Going::Read => false,
             Going::Over => false,
             Going::Unread => false,
             Going::Unwritten => false,

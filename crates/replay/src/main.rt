@@ -4,6 +4,7 @@ mod input;
 mod rooms;
 mod run;
 mod text;
+mod turn;
 
 use libc::STDIN_FILENO;
 use run::run_file;

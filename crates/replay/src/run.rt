@@ -1,114 +1,92 @@
-// A file is run, record by record.
-ghost use Prim.Native.Nat.{_≤_};
+// A file is run, turn by turn.
+ghost use Prim.Native.Nat.{_≤_, _<_};
 ghost use mathlib.Core.Path.{_≡_};
 ghost use lib.ListN.{length};
-ghost use Rattle.replay.specs.Run.{movedBy};
+ghost use Rattle.session.specs.Held.{nothingHeld};
+ghost use Rattle.session.specs.Lent.{roomsOf, sessionOf};
+ghost use Rattle.replay.specs.Run.{begun, runOf, unreadIn};
+ghost use Rattle.replay.specs.Inner.{AfterBoth, AfterServing};
+ghost use Rattle.replay.specs.Ran.{Reached};
+ghost use Rattle.replay.specs.declared.course.Going.the-variants.{Read};
 use crate::course::Course;
 use crate::course::Going;
 use crate::input::read_on;
 use crate::rooms;
-use crate::text::put_entry;
 use crate::text::write_out;
+use crate::text::written;
+use crate::turn::Turned;
+use crate::turn::turn;
 use session::session::Session;
-use session::step::Stepped;
-use session::step::step;
-use session_answers::Adds;
-use session_answers::StepAnswer;
 
-// Lists what an answer adds.
-fn listed(answer: StepAnswer, output: &[u32], text: &mut [u8], course: Course) -> Course
-    ensures { λ r. ⌜ r .to ≡ course .to ⌝ }
+// Writes out the text that waits, and then reads on.
+fn read_after(file: i32, input: &mut [u8], lines: &[u8], course: Course) -> Course
+    requires { ⌜ (course .to ≤ length (now input)) × (length (unreadIn course (now input)) < length (now input)) ⌝ }
+    ensures { λ r. ⌜ AfterBoth course (now (input .entry)) r (now (input .exit)) ⌝ }
 {
-    match answer.adds() {
-        Adds::One(entry) => put_entry(entry, output, text, course),
-        Adds::Nothing => course,
+    if write_out(lines, course.put) {
+        return read_on(file, input, course.written_out(Going::Read));
+    }
+    course.going_so(Going::Unwritten)
+}
+
+// Does what a turn asks for: the text is written out where it leaves no room, before a read, which may wait, and at the end.
+fn served(file: i32, input: &mut [u8], lines: &[u8], course: Course) -> Course
+    requires { ⌜ (course .to ≤ length (now input)) × (course .going ≡ Read → length (unreadIn course (now input)) < length (now input)) ⌝ }
+    ensures { λ r. ⌜ AfterServing (course .going) course (now (input .entry)) r (now (input .exit)) ⌝ }
+{
+    let going = course.going;
+    match going {
+        Going::On => course,
+        Going::Full => written(lines, course, Going::On),
+        Going::Read => read_after(file, input, lines, course),
+        Going::Over => written(lines, course, Going::Over),
+        Going::Unread => course,
+        Going::Unwritten => course,
     }
 }
 
-// On at the next record, or over with this answer.
-fn moved(answer: StepAnswer, place: usize, course: Course) -> Course
-    ensures { λ r. ⌜ r ≡ movedBy answer place course ⌝ }
-{
-    let next = course.with_from(place);
-    if answer.over() {
-        return next.ending(Going::Over);
-    }
-    next
-}
-
-// Moves on by a step's answer, lists what it adds, and reads on where it waits for more bytes.
-fn answered(
-    answer: StepAnswer,
-    place: usize,
+// Makes turns, and does after each what it asks for. A proved loop has to end, and nothing says that a file does, so the turns are counted down.
+fn run_turns(
     file: i32,
     input: &mut [u8],
-    output: &[u32],
-    text: &mut [u8],
-    course: Course,
-) -> Course
-    requires { ⌜ course .to ≤ length (now input) ⌝ }
-    ensures { λ r. ⌜ r .to ≤ length (now (input .exit)) ⌝ }
-{
-    let next = listed(answer, output, text, moved(answer, place, course));
-    if let StepAnswer::More = answer {
-        return read_on(file, input, next);
-    }
-    next
-}
-
-// Steps from record to record, and reads on between them. A proved loop has to end, and nothing says that a file does, so the turns are counted down.
-fn steps(
-    file: i32,
-    input: &mut [u8],
-    text: &mut [u8],
+    lines: &mut [u8],
     store: &mut [u32],
     table: &mut [u8],
     normal: &mut [u8],
     overlay: &mut [u8],
     output: &mut [u32],
-) -> Course {
-    let mut stepped = Stepped {
-        session: Session::new(),
-        place: 0,
-        answer: StepAnswer::More,
-    };
+) -> Turned
+    requires { ⌜ 65538 ≤ length (now input) ⌝ }
+    ensures { λ r. ⌜ Reached (runOf begun (sessionOf nothingHeld) (roomsOf (now (store .entry)) (now (table .entry)) (now (normal .entry)) (now (overlay .entry)) (now (output .entry))) (now (input .entry)) (now (lines .entry))) (runOf (r .course) (r .session) (roomsOf (now (store .exit)) (now (table .exit)) (now (normal .exit)) (now (overlay .exit)) (now (output .exit))) (now (input .exit)) (now (lines .exit))) ⌝ }
+{
+    let mut session = Session::new();
     let mut course = Course::start();
     let mut turns = u64::MAX;
     while turns > 0 && course.goes_on() {
-        let to = course.to;
-        let session = stepped.session;
-        stepped = step(
+        let turned = turn(
             session,
-            &input[0..to],
-            course.from,
-            course.last,
+            course,
+            input,
+            lines,
             store,
             table,
             normal,
             overlay,
             output,
         );
-        let answer = stepped.answer;
-        course = answered(answer, stepped.place, file, input, output, text, course);
+        session = turned.session;
+        let asks = turned.course;
+        course = served(file, input, lines, asks);
         turns -= 1;
     }
-    course
+    Turned { session, course }
 }
 
-// Says why the listing could not be written. Answers that no more can be.
-fn unwritten() -> bool {
-    os::fail(b"standard output");
-    false
-}
-
-// Writes the rest of the text out, and then says why the file could not be read on. Answers whether more can be written.
-fn finish(name: &[u8], text: &[u8], course: Course) -> bool {
-    let going = course.going;
+// Says why a run broke off. Answers whether more can be written.
+fn finish(name: &[u8], going: Going) -> bool {
     if let Going::Unwritten = going {
-        return unwritten();
-    }
-    if !write_out(text, course.put) {
-        return unwritten();
+        os::fail(b"standard output");
+        return false;
     }
     if let Going::Unread = going {
         os::fail(name);
@@ -119,21 +97,23 @@ fn finish(name: &[u8], text: &[u8], course: Course) -> bool {
 // Lists an open file, which messages call by this name. Answers whether more can be written.
 pub(crate) fn run_file(file: i32, name: &[u8]) -> bool {
     let mut input = rooms::input();
-    let mut text = rooms::text();
+    let mut lines = rooms::text();
     let mut store = rooms::store();
     let mut table = rooms::table();
     let mut normal = rooms::normal();
     let mut overlay = rooms::overlay();
     let mut output = rooms::output();
-    let course = steps(
+    let left = run_turns(
         file,
         &mut input,
-        &mut text,
+        &mut lines,
         &mut store,
         &mut table,
         &mut normal,
         &mut overlay,
         &mut output,
     );
-    finish(name, &text, course)
+    let course = left.course;
+    let going = course.going;
+    finish(name, going)
 }

@@ -1,0 +1,6 @@
+pub mod Added
+pub mod Front
+pub mod Turns
+pub mod Reading
+pub mod Waits
+pub mod Loop
