@@ -60,7 +60,8 @@ fn compare_all(pair: &mut Pair, numbers: &mut Numbers) -> Result<(), String> {
     }
     println!("chip from Rust: {} vectors alike, {}", vectors.len(), std::mem::take(&mut pair.tally));
     let mut sequences = 0;
-    while pair.tally.least() < CALLS {
+    let calls = numbers::so_many(CALLS);
+    while pair.tally.least() < calls {
         let sequence = draw::sequence(numbers);
         sequence.run(pair).map_err(|_| smallest(sequence))?;
         sequences += 1;

@@ -31,13 +31,13 @@ use pair::{Difference, Pair};
 use unread::Noise;
 
 /// How many random lines, every second one damaged.
-const LINES: usize = 1_000_000;
+const LINES: u64 = 1_000_000;
 
 /// One in so many is drawn again with all changed that it doesn't read.
-const UNREAD: usize = 3;
+const UNREAD: u64 = 3;
 
 /// So many lines have most of the store in common.
-const ON_ONE_BACKGROUND: usize = 16;
+const ON_ONE_BACKGROUND: u64 = 16;
 
 fn main() -> ExitCode {
     let seed = numbers::seed(std::env::args().nth(1));
@@ -63,15 +63,16 @@ fn compare_all(pair: &mut Pair, numbers: &mut Numbers) -> Result<(), String> {
         vector(pair).map_err(|difference| format!("{what}: {}", smallest(difference)))?;
     }
     println!("line from Rust: {} vectors alike", vectors.len());
-    random(pair, numbers)?;
-    println!("line from Rust: {LINES} random lines alike");
+    let lines = numbers::so_many(LINES);
+    random(pair, numbers, lines)?;
+    println!("line from Rust: {lines} random lines alike");
     Ok(())
 }
 
 /// Random lines, whole and damaged, some of them again with all changed that they don't read.
-fn random(pair: &mut Pair, numbers: &mut Numbers) -> Result<(), String> {
+fn random(pair: &mut Pair, numbers: &mut Numbers, lines: u64) -> Result<(), String> {
     let (mut background, mut noise) = (Vec::new(), Noise::new(numbers));
-    for number in 0..LINES {
+    for number in 0..lines {
         if number % ON_ONE_BACKGROUND == 0 {
             background = draw::background(numbers);
         }

@@ -8,6 +8,15 @@ pub fn seed(word: Option<String>) -> u64 {
     word.and_then(|word| word.parse().ok()).expect("a word of the command is the seed, a number")
 }
 
+/// As many as that, or a tenth where an emulator runs the test: `tools/x86_64` says so.
+pub fn so_many(count: u64) -> u64 {
+    if std::env::var_os("BULITAMPAW_X86_64").is_some() {
+        count / 10
+    } else {
+        count
+    }
+}
+
 pub struct Numbers(u64);
 
 impl Numbers {

@@ -61,7 +61,8 @@ fn compare_all(pair: &mut Pair, numbers: &mut Numbers) -> Result<(), String> {
         return Err(format!("the fresh session is {:?}\n", library::fresh_session()));
     }
     let mut sequences = 0;
-    while pair.tally.steps() < STEPS {
+    let steps = numbers::so_many(STEPS);
+    while pair.tally.steps() < steps {
         let sequence = draw::sequence(numbers);
         sequence.run(pair, files::of_model).map_err(|_| smallest(sequence))?;
         sequences += 1;
