@@ -9,4 +9,5 @@ pub mod Shown
 pub mod Accepted
 pub mod PutShown
 pub mod WriteThenRead
+pub mod RuleInWords
 pub mod Unique

@@ -1,25 +1,25 @@
 -- What a write did: nothing where it was refused, else it put its value into the register that it names. Assumes nothing.
 use Prim.Native.Nat.{ℕ, _<_}
 use mathlib.Core.Path.{_≡_, refl, ap, _∙_}
-use mathlib.Core.Bool.{true, false, true≢false, _&&_}
+use mathlib.Core.Bool.{true, false, _&&_}
 use mathlib.Core.List.{[]}
-use borrow.Author.Tests.{eqb-true, not-false}
 use lib.ListN.{length}
 use Rattle.rules.specs.Rule.{Outcome, ok, refused}
-use Rattle.rules.specs.Faults.{Numbered, Clear}
-use Rattle.rules.proofs.Faults.{none-holds, accepted-clear, refused-leaves}
+use Rattle.rules.specs.Faults.{Numbered}
+use Rattle.rules.proofs.Faults.{refused-leaves}
 use Rattle.chip_registers.specs.Blocks.{count}
-use Rattle.chip_registers.specs.Named.{addressPlace, named}
+use Rattle.chip_registers.specs.Named.{named}
 use Rattle.chip_registers.specs.Kept.{fits}
 use Rattle.chip_registers.specs.Access.{waits}
 use Rattle.chip_registers.specs.declared.Register.{Register}
 use Rattle.chip_registers.specs.declared.Named.{Named}
-use Rattle.chip_registers.specs.declared.Named.the-variants.{Is, Nothing}
+use Rattle.chip_registers.specs.declared.Named.the-variants.{Is}
 use Rattle.chip_registers.proofs.Naming.{named-word}
 use Rattle.chip_queue.specs.Queue.{full}
 use Rattle.chip.specs.Call.{Chip}
-use Rattle.chip.specs.Write.{registerFaults, writeFaults, put, putNamed, written}
+use Rattle.chip.specs.Write.{writeFaults, put, putNamed, written}
 use Rattle.chip.proofs.CallCheck.{GoesOn, says-allowed}
+use Rattle.chip.proofs.Accepted.{AcceptedWrite, accepted-write}
 use Rattle.chip_history.specs.Calls.{write}
 use Rattle.chip_history.specs.Ledger.{colourWrite, acceptedBy, accepts}
 
@@ -38,23 +38,20 @@ pub data Wrote (chip : Chip) (address value : ℕ) : Type 0 where
   into : (register : Register) → Put chip address value register → Wrote chip address value
 
 module _ (chip : Chip) (address value : ℕ) where
-  -- a write that no fault stands against
-  wrote-on : Clear (writeFaults chip address value) → (names : Named) → named address ≡ names → Wrote chip address value
-  unfolding written accepts
-  wrote-on clear Nothing e =
-      let wrong : Clear (registerFaults (full (chip .0 .queue)) Nothing (addressPlace address) value) = rw e at (clear .1 .1) in
-      absurd (true≢false (wrong .0))
-  wrote-on clear (Is register) e =
-      let own : Clear (registerFaults (full (chip .0 .queue)) (Is register) (addressPlace address) value) = rw e at (clear .1 .1) in
-      let does = none-holds chip (putNamed chip (named address) value, tt) (writeFaults chip address value) clear in
-      into register
+  -- a write that was accepted
+  wrote-on : AcceptedWrite chip address value → written chip address value .1 ≡ ok tt → Wrote chip address value
+  unfolding accepts
+  wrote-on on done =
+      into (on .register)
       record {
-        on = says-allowed (chip .0) (length (chip .1)) (not-false _ (clear .0)) (eqb-true _ _ (not-false _ (clear .1 .0)));
-        here = named-word address register e;
-        fine = not-false _ (own .1 .0);
-        free = own .1 .1 .0;
-        left = ap (λ all. all .0) does ∙ ap (λ (names : Named). putNamed chip names value) e;
-        taken = ap (λ all. acceptedBy (all .1) (colourWrite (named address) value)) does ∙ ap (λ (names : Named). colourWrite names value) e;
+        on = says-allowed (chip .0) (length (chip .1)) (on .good) (on .size);
+        here = named-word address (on .register) (on .names);
+        fine = on .fine;
+        free = on .free;
+        left = on .left;
+        taken =
+            ap (λ (outcome : Outcome Numbered Unit). acceptedBy outcome (colourWrite (named address) value)) done
+            ∙ ap (λ (names : Named). colourWrite names value) (on .names);
       }
 
   -- every write put its value into a register, or did nothing
@@ -64,8 +61,7 @@ module _ (chip : Chip) (address value : ℕ) where
     where
       -- by what the write answered
       by : (outcome : Outcome Numbered Unit) → written chip address value .1 ≡ outcome → Wrote chip address value
-      by (ok answer) e =
-          wrote-on (accepted-clear chip (putNamed chip (named address) value, tt) (writeFaults chip address value) answer e) (named address) refl
+      by (ok answer) e = wrote-on (accepted-write chip address value e) e
       by (refused refusal) e =
           nothing (refused-leaves chip (putNamed chip (named address) value, tt) (writeFaults chip address value) refusal e)
           (ap (λ (outcome : Outcome Numbered Unit). acceptedBy outcome (colourWrite (named address) value)) e)

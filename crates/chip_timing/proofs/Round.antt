@@ -1,7 +1,7 @@
 -- Timing in other words than its definitions: a window as a way round a circle, the moves as a picture's raster, and the signals window by window. Assumes nothing.
 use Prim.Native.Nat.{ℕ, zero, suc, min, _+_, _-_, _*_, _/_, _%_, _≤_, _<_}
 use mathlib.Core.Path.{_≡_, refl, sym, ap, _∙_}
-use mathlib.Core.Bool.{Bool, true, false, _||_, or-true}
+use mathlib.Core.Bool.{Bool, true, false, or-true}
 use native.Mathlib.Decide.{decLt}
 use native.Mathlib.Nat.{mod-eq-of-lt, add-mod-right, div-eq-of-lt}
 use native.Mathlib.Omega.{arith}
