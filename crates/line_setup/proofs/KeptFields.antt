@@ -13,6 +13,8 @@ use Rattle.rules.specs.Lists.{values}
 use Rattle.rules.proofs.Cases.{le-or-lt}
 use Rattle.words.specs.Field.{field}
 use Rattle.chip_timing.specs.Signals.{windowHolds}
+use Rattle.chip_timing.specs.Move.{nextPosition}
+use Rattle.chip_timing.specs.declared.Position.{Position}
 use Rattle.chip_registers.specs.Kept.{keptOfControl, keptOf, fits}
 use Rattle.chip_registers.specs.declared.Block.the-variants.{Control}
 use Rattle.chip_registers.proofs.Kept.{kept-pair}
@@ -181,6 +183,11 @@ module _ (word value : ℕ) (not0 : word ≡ 0 → ⊥) (not7 : word ≡ 7 → �
   pub window-kept : (p : ℕ) → windowHolds (keptOf (registerIn Control word) value) p ≡ windowHolds value p
   unfolding windowHolds
   window-kept p = rw (pair-kept .0, pair-kept .1)
+
+-- the move of the beam rests on the kept bits of word 1 alone
+pub move-kept : (at : Position) (value : ℕ) → nextPosition at (keptOf (registerIn Control 1) value) ≡ nextPosition at value
+unfolding nextPosition
+move-kept at value = let total = pair-kept 1 value (omega arith) (omega arith) in rw (total .0, total .1)
 
 -- what control words say of a line rests on their kept bits alone
 pub controls-kept : (control : List ℕ) → controlsOf (keptWords control) ≡ controlsOf control
