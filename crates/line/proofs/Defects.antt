@@ -1,13 +1,12 @@
 -- Lines with a fault: a refused line leaves the output as it was, and a line is drawn only where every active pixel has a defined window entry. Assumes nothing.
-use Prim.Native.Nat.{ℕ, _+_, _≤_, _<_}
-use mathlib.Core.Path.{_≡_, refl, sym, ap, subst, _∙_}
+use Prim.Native.Nat.{ℕ, _<_}
+use mathlib.Core.Path.{_≡_, refl, sym, subst, _∙_}
 use mathlib.Core.Bool.{Bool, true, false}
 use mathlib.Core.List.{List}
 use native.Mathlib.Omega.{arith}
 use lib.ListN.{length, getD}
 use Rattle.rules.specs.Rule.{Outcome, ok, refused, run}
 use Rattle.rules.specs.Faults.{Numbered}
-use Rattle.rules.specs.Each.{each}
 use Rattle.rules.specs.Checked.{checked}
 use Rattle.rules.proofs.Cases.{impossible}
 use Rattle.rules.proofs.Parts.{both}
@@ -24,7 +23,6 @@ use Rattle.line_windows.proofs.Belongs.{TableBy, table-found-by, table-by-found
 use Rattle.line_setup.specs.Controls.{controlsOf}
 use Rattle.line_setup.specs.Faults.{lineFaults}
 use Rattle.line_setup.specs.declared.controls.Controls.{Controls}
-use Rattle.line_setup.specs.declared.setup.Setup.{Setup}
 use Rattle.line.specs.Cells.{Lent, windowEntry, view}
 use Rattle.line.specs.Line.{startOf, idAt, definedAt, windowEntryAt, entriesOf, coloursOf, lineRule, lineOf}
 use Rattle.line.specs.Drawn.{setupOf, withoutColours, outputAfter, drawn}

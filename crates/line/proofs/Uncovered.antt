@@ -1,5 +1,5 @@
 -- What a line is refused for rests on nothing that covers or colours its pixels: not on the cursor, the overlay row, the normal row, the maps or the glyph. Assumes nothing.
-use Prim.Native.Nat.{ℕ, zero, suc, _+_, _%_, _^_, _<_}
+use Prim.Native.Nat.{ℕ, zero, suc, _%_, _^_, _<_}
 use mathlib.Core.Path.{_≡_, refl, sym, ap, _∙_}
 use mathlib.Core.Bool.{Bool, true, false, cond}
 use mathlib.Core.List.{List}

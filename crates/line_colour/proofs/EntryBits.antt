@@ -1,7 +1,7 @@
 -- Window entries in plain numbers: which are defined at a depth, what a defined one says, and what a sample shows under it. Assumes nothing.
 use Prim.Native.Nat.{ℕ, _+_, _*_, _/_, _%_}
 use mathlib.Core.Path.{_≡_, refl, sym, ap, subst, _∙_}
-use mathlib.Core.Bool.{Bool, true, false}
+use mathlib.Core.Bool.{true, false}
 use native.Mathlib.Omega.{arith}
 use borrow.Author.Tests.{eq-eqb, ne-eqb}
 use Rattle.rules.proofs.Cases.{impossible}
@@ -9,7 +9,7 @@ use Rattle.words.specs.Field.{field}
 use Rattle.line_formats.specs.declared.Format.the-variants.{Index8, Index12, Rgb332, Rgb444, Rgb555, Rgb888}
 use Rattle.line_formats.proofs.FormatListed.{FormatListed, numberOf, named-number, listed-has, has-listed}
 use Rattle.line_formats.proofs.Samples.{index-8-in-numbers, index-12-in-numbers, rgb-332-in-numbers, rgb-444-in-numbers, rgb-555-in-numbers, rgb-888-in-numbers}
-use Rattle.line_colour.specs.Entry.{definedAs, decoded, isDefined}
+use Rattle.line_colour.specs.Entry.{decoded, isDefined}
 use Rattle.line_colour.specs.Shown.{shownOf}
 use Rattle.line_colour.specs.declared.entry.WindowEntry.{WindowEntry}
 use Rattle.line_colour.specs.declared.entry.Decoded.{Decoded}

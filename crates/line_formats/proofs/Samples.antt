@@ -6,7 +6,6 @@ use native.Mathlib.Omega.{arith}
 use lib.Dec.{lit<}
 use lib.Pow.{pow-add, high, low, shr-shr}
 use Rattle.words.specs.Field.{bits}
-use Rattle.words.specs.declared.Rgb.{Rgb}
 use Rattle.line_formats.specs.Channel.{widened, colourByWidths}
 use Rattle.line_formats.specs.Table.{widthsOf, valueOf, entryInBank, colourInFormat}
 use Rattle.line_formats.specs.declared.Format.the-variants.{Index8, Index12, Rgb332, Rgb444, Rgb555, Rgb888}

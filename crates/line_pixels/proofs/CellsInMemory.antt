@@ -2,13 +2,13 @@
 use Prim.Native.Nat.{ℕ, zero, suc, _+_, _-_, _*_, _/_, _%_, _^_, _≤_, _<_}
 use mathlib.Core.Path.{_≡_, refl, sym, ap, _∙_}
 use mathlib.Core.List.{List}
-use native.Mathlib.Nat.{add-zero, pow-suc}
+use native.Mathlib.Nat.{pow-suc}
 use native.Mathlib.Omega.{arith}
 use lib.ListN.{getD}
 use Rattle.words.specs.Field.{bits}
-use Rattle.words.specs.Bytes.{bigEndian}
+use Rattle.words.proofs.Bytes.{big-endian-2, big-endian-4}
 use Rattle.words.proofs.LowBits.{bits-of-low}
-use Rattle.line_pixels.specs.Cells.{inRed, inGreen, inBlue, PixelCell, glyph, cursorColour, sample, mapEntry, gamma, pixelView}
+use Rattle.line_pixels.specs.Cells.{inRed, inGreen, inBlue, glyph, cursorColour, sample, mapEntry, gamma, pixelView}
 
 -- four, and two times two
 four-pow : (n : ℕ) → 4 ^ n ≡ 2 ^ (2 * n)
@@ -59,17 +59,10 @@ module _ (store normal overlay : List ℕ) where
   -- at depth 16 a pixel is two bytes of the normal row, the first the higher; of them the bits asked for are taken
   pub sample-of-16 : (x low count : ℕ)
       → pixelView store normal overlay (sample 16 x low count) ≡ (getD normal (x * 2) 0 * 256 + getD normal (x * 2 + 1) 0) / 2 ^ low % 2 ^ count
-  sample-of-16 x low count =
-      let first : getD normal (x * 2 + 0) 0 ≡ getD normal (x * 2) 0 = rw add-zero in
-      let word : bigEndian normal (x * 2) 2 ≡ getD normal (x * 2) 0 * 256 + getD normal (x * 2 + 1) 0 = omega arith in
-      ap (λ (w : ℕ). w / 2 ^ low % 2 ^ count) word
+  sample-of-16 x low count = ap (λ (w : ℕ). w / 2 ^ low % 2 ^ count) (big-endian-2 normal (x * 2))
 
   -- at depth 32 it is four bytes
   pub sample-of-32 : (x low count : ℕ)
       → pixelView store normal overlay (sample 32 x low count)
       ≡ (getD normal (x * 4) 0 * 16777216 + getD normal (x * 4 + 1) 0 * 65536 + getD normal (x * 4 + 2) 0 * 256 + getD normal (x * 4 + 3) 0) / 2 ^ low % 2 ^ count
-  sample-of-32 x low count =
-      let first : getD normal (x * 4 + 0) 0 ≡ getD normal (x * 4) 0 = rw add-zero in
-      let word : bigEndian normal (x * 4) 4
-      ≡ getD normal (x * 4) 0 * 16777216 + getD normal (x * 4 + 1) 0 * 65536 + getD normal (x * 4 + 2) 0 * 256 + getD normal (x * 4 + 3) 0 = omega arith in
-      ap (λ (w : ℕ). w / 2 ^ low % 2 ^ count) word
+  sample-of-32 x low count = ap (λ (w : ℕ). w / 2 ^ low % 2 ^ count) (big-endian-4 normal (x * 4))

@@ -6,7 +6,7 @@ use mathlib.Core.List.{List·Memᴰ·head, List·Memᴰ·tail, List·Memᴰ·not
 use mathlib.Core.Logic.{_⊎_, inl, inr, _≢_, ⊎-elim}
 use lib.Dec.{eqb}
 use borrow.Author.Tests.{eqb-true, eqb-false, eq-eqb, ne-eqb}
-use Rattle.rules.specs.Rule.{Rule, done, get, reads, value, _>>=_}
+use Rattle.rules.specs.Rule.{Rule, get, reads, value, _>>=_}
 use Rattle.rules.proofs.Cases.{impossible}
 use Rattle.rules.proofs.Asks.{Asks, asks-reads, asks-cond}
 use Rattle.rules.proofs.Lists.{Among}

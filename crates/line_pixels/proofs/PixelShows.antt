@@ -1,6 +1,6 @@
 -- The colour of a pixel by the layer that shows, in the paper's own numbers. Assumes nothing.
 use Prim.Native.Nat.{ℕ, _+_, _*_, _/_, _%_}
-use mathlib.Core.Path.{_≡_, refl, sym, ap, _∙_}
+use mathlib.Core.Path.{_≡_, refl, sym, _∙_}
 use mathlib.Core.Bool.{Bool, true, false, and-false}
 use mathlib.Core.Logic.{_⊎_, inl, inr, _≢_}
 use native.Mathlib.Omega.{arith}
@@ -10,7 +10,7 @@ use Rattle.rules.specs.Rule.{value}
 use Rattle.words.specs.Channels.{channelsOf}
 use Rattle.line_colour.specs.declared.entry.WindowEntry.{WindowEntry}
 use Rattle.line_pixels.specs.Cells.{Channel, inRed, inGreen, inBlue, channelIn, PixelCell, cursorColour, overlayByte, mapEntry, gamma}
-use Rattle.line_pixels.specs.Colour.{throughGamma, normalAt, overlayCounts, overlayAt, underCursor, colourOfPixel}
+use Rattle.line_pixels.specs.Colour.{throughGamma, normalAt, overlayCounts, underCursor, colourOfPixel}
 use Rattle.line_pixels.specs.declared.Screen.{Screen}
 use Rattle.line_pixels.proofs.Gamma.{gamma-skipped}
 use Rattle.line_pixels.proofs.LayersCases.{plain-of-normal, overlay-byte, overlay-none, under-clear, under-overlay, colour-under, colour-of-cursor}

@@ -1,6 +1,6 @@
 -- Which entries belong to a table, and which one gives a line its line table and a pixel its ID, in numbers of bytes. Assumes nothing.
 use Prim.Native.Nat.{ℕ, _+_, _*_, _/_, _≤_, _<_}
-use mathlib.Core.Path.{_≡_, refl, ap}
+use mathlib.Core.Path.{_≡_}
 use mathlib.Core.List.{[], _∷_}
 use native.Mathlib.Omega.{arith}
 use Rattle.rules.specs.Rule.{ok, refused, run}
@@ -8,7 +8,6 @@ use Rattle.rules.specs.Faults.{Numbered}
 use Rattle.refusals.specs.Refusal.{numbered}
 use Rattle.refusals.specs.declared.Refusal.the-variants.{NoFrameEntry, NoLineEntry}
 use Rattle.line_windows.specs.Table.{TableCell, yend, lineTable, xend, windowId}
-use Rattle.line_windows.specs.Search.{NoneServes}
 use Rattle.line_windows.specs.Frame.{frameEntries, lineTableOf}
 use Rattle.line_windows.specs.Ids.{lineEntries, endOf, idOf}
 use Rattle.line_windows.proofs.Whole.{whole-finds, whole-misses}
