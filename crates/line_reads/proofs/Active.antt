@@ -123,15 +123,15 @@ module _ (setup : Setup) (lent : Lent) where
 
   -- the end of a frame entry is listed only where window IDs are on
   frame-on : (frames : Search) (number : ℕ) → FrameListed setup lent frames number → setup .controls .ids ≡ true
-  frame-on toTheOneFound number listed = listed .found .on
+  frame-on toTheOneFound number listed = listed .found .whole .on
   frame-on throughAll number listed = listed .on
 
   -- so is every cell of the table, however far the line gets
   reach-on : (reach : Reach) (cell : TableCell) → ListedTo setup lent reach (ofTable cell) → setup .controls .ids ≡ true
   reach-on reach (yend number) listed = frame-on (reach .frames) number listed
-  reach-on reach (lineTable number) listed = listed .on
-  reach-on reach (xend byte) listed = listed .starts .on
-  reach-on reach (windowId byte) listed = listed .starts .on
+  reach-on reach (lineTable number) listed = listed .whole .on
+  reach-on reach (xend byte) listed = listed .starts .found .whole .on
+  reach-on reach (windowId byte) listed = listed .starts .found .whole .on
 
   -- a cell of the table is listed for a refusal only where window IDs are on
   table-refused : {refusal : Numbered} (cell : TableCell) → RefusedListed setup lent refusal (ofTable cell) → setup .controls .ids ≡ true

@@ -1,6 +1,6 @@
 -- A line reads all that is listed. Assumes nothing.
 use Prim.Native.Nat.{ℕ, suc, _≤_, _<_}
-use mathlib.Core.Path.{_≡_, refl, sym, subst, _∙_}
+use mathlib.Core.Path.{_≡_, refl, sym, subst}
 use mathlib.Core.Bool.{true, false}
 use mathlib.Core.List.{List, List·Memᴰ, Memᴰ·cast}
 use native.Mathlib.Omega.{arith}
@@ -8,7 +8,6 @@ use Rattle.rules.specs.Rule.{Rule, Outcome, ok, refused, run, reads, _>>=_}
 use Rattle.rules.specs.Faults.{Numbered}
 use Rattle.rules.specs.Checked.{verdict}
 use Rattle.rules.proofs.Cases.{impossible}
-use Rattle.rules.proofs.Then.{run-ok}
 use Rattle.rules.proofs.Lists.{Among}
 use Rattle.rules.proofs.Parts.{both, Either, at-first, at-second, either, by-first, by-second, either-read, within-read}
 use Rattle.rules.proofs.Each.{AllAnswer, each-answers, StopsAt, each-stops}
@@ -31,6 +30,8 @@ use Rattle.line_reads.proofs.Before.{refused-unread, reads-passes}
 use Rattle.line_reads.proofs.ListedColours.{colour-listed}
 use Rattle.line_reads.proofs.Frames.{starting, line-table-listed, no-frame, NoFrame, frame-number, no-frame-listed}
 use Rattle.line_reads.proofs.Pixels.{entering, NoId, RefusedPixel, without-id, undefined, pixel-refused, read-no-id}
+use Rattle.line_reads.proofs.Served.{whole-frame}
+use Rattle.line_reads.proofs.Having.{has-entry}
 use Rattle.line_reads.proofs.MetPixels.{ReadFor, for-start, for-pixel, for-search, for-colour, listed-for}
 use Rattle.line_reads.proofs.Early.{early, nothing-listed}
 use Rattle.line_reads.proofs.OnlyListed.{passing, whole, answered-drawn, answered-refused}
@@ -93,7 +94,7 @@ module _ (setup : Setup) (lent : Lent) where
           low = omega arith;
           high = omega (arith, listed .active);
           value = listed .entry;
-          found = sym (run-ok (view lent) (starting setup lent) _ (two .found)) ∙ listed .has;
+          found = has-entry setup lent (two .found) (listed .pixel) (listed .has);
           here =
               within-read (λ (refusal : ⊥). absurd refusal) ofColour (view lent) (colourOfPixel screen (listed .entry) (listed .pixel))
               (colour-listed (λ (c : PixelCell). view lent (ofColour c)) screen (listed .entry) (listed .pixel) cell (listed .listed));
@@ -116,7 +117,7 @@ module _ (setup : Setup) (lent : Lent) where
   -- what is listed for 7, the passes read
   no-frame-all : {refusal : Numbered} → NoFrame setup lent refusal → (cell : Cell) → ListedTo setup lent noFrameEntry cell
       → Among cell (reads (view lent) two-passes)
-  no-frame-all lacks (ofTable (yend number)) listed = of-start (no-frame-listed setup lent lacks number (listed .within))
+  no-frame-all lacks (ofTable (yend number)) listed = of-start (no-frame-listed setup lent lacks number (whole-frame setup lent listed))
   no-frame-all lacks (ofTable (lineTable number)) listed = of-start (line-table-listed setup lent listed)
   no-frame-all lacks (ofTable (xend byte)) listed = absurd (omega (arith, listed .searched .is-last))
   no-frame-all lacks (ofTable (windowId byte)) listed = absurd (omega (arith, listed .is-met))

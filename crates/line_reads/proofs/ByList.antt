@@ -4,7 +4,7 @@ use mathlib.Core.Path.{_≡_, subst}
 use mathlib.Core.List.{List, List·Memᴰ}
 use lib.ListN.{length}
 use Rattle.line_setup.specs.declared.setup.Setup.{Setup}
-use Rattle.line.specs.Cells.{Cell, Lent, view}
+use Rattle.line.specs.Cells.{Cell, Lent}
 use Rattle.line.specs.Line.{lineOf}
 use Rattle.line.specs.Drawn.{setupOf, drawn}
 use Rattle.line.specs.declared.request.Request.{Request}

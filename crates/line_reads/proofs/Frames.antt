@@ -20,6 +20,7 @@ use Rattle.line.proofs.Entries.{run-in-table}
 use Rattle.line_reads.specs.Reach.{Reach, toTheOneFound, noFrameEntry}
 use Rattle.line_reads.specs.TableList.{FrameEntry, UpToFrameEntry, StartsAt}
 use Rattle.line_reads.specs.Listed.{ListedTo}
+use Rattle.line_reads.proofs.Served.{frame-whole, found-frame, found-start, frame-found, start-found}
 use Rattle.line_reads.proofs.LookUps.{LookedUpCell, an-end, its-cell, look-up-read, read-end, read-cell, refusal-named, refused-look-up-read, read-any-end}
 
 module _ (setup : Setup) (lent : Lent) where
@@ -39,7 +40,7 @@ module _ (setup : Setup) (lent : Lent) where
   start-on on = rw on refl
 
   -- off, no line table is looked up
-  start-off : setup .controls .ids ≡ false → starting ≡ done 0
+  pub start-off : setup .controls .ids ≡ false → starting ≡ done 0
   unfolding startOf
   start-off off = rw off refl
 
@@ -55,11 +56,11 @@ module _ (setup : Setup) (lent : Lent) where
 
   -- a line table that is found starts there
   pub starts-at : setup .controls .ids ≡ true → {start : ℕ} → run (view lent) starting ≡ ok start → StartsAt setup lent start
-  starts-at on e = record { on = on; found = sym (run-in-table lent (lineTableOf (setup .lengths .table) (setup .y))) ∙ (rw (start-on on) at e) }
+  starts-at on e = found-start setup lent on (sym (run-in-table lent (lineTableOf (setup .lengths .table) (setup .y))) ∙ (rw (start-on on) at e))
 
   -- where a line table starts, it is found
   pub starts-found : {start : ℕ} → StartsAt setup lent start → run (view lent) starting ≡ ok start
-  starts-found at = rw (start-on (at .on)) (run-in-table lent (lineTableOf (setup .lengths .table) (setup .y)) ∙ at .found)
+  starts-found at = rw (start-on (at .found .whole .on)) (run-in-table lent (lineTableOf (setup .lengths .table) (setup .y)) ∙ start-found setup lent at)
 
   -- ---- where the line table starts
 
@@ -85,7 +86,7 @@ module _ (setup : Setup) (lent : Lent) where
     start-listed reach is-found {start} {cell} starts found =
         subst (ListedTo setup lent reach) (sym (found .is))
         (by (look-up-read (tableView (lent .table)) (numbered (NoFrameEntry (setup .y))) yend lineTable (frameEntries (setup .lengths .table)) (setup .y)
-        (starts .found) (found .here)))
+        (start-found setup lent starts) (found .here)))
       where
         -- a cell that the look-up reads is an end up to that of the entry found, or where its line table starts
         by : {inner : TableCell}
@@ -93,9 +94,9 @@ module _ (setup : Setup) (lent : Lent) where
             → ListedTo setup lent reach (ofTable inner)
         by (an-end entry at number up-to is) =
             subst (λ (inner : TableCell). ListedTo setup lent reach (ofTable inner)) (sym is)
-            (rw is-found (record { entry = entry; found = record { on = on; found = at }; up-to = up-to }))
+            (rw is-found (record { entry = entry; found = found-frame setup lent on at; up-to = up-to }))
         by (its-cell entry at is) =
-            subst (λ (inner : TableCell). ListedTo setup lent reach (ofTable inner)) (sym is) (record { on = on; found = at })
+            subst (λ (inner : TableCell). ListedTo setup lent reach (ofTable inner)) (sym is) (found-frame setup lent on at)
 
   -- a cell that is read to find the line table is listed of a line that finds it
   pub start-read : (reach : Reach) → reach .frames ≡ toTheOneFound → {start : ℕ} → run (view lent) starting ≡ ok start
@@ -112,16 +113,16 @@ module _ (setup : Setup) (lent : Lent) where
   pub frame-listed : {number : ℕ} → UpToFrameEntry setup lent number → Among (ofTable (yend number)) (reads (view lent) starting)
   unfolding lineTableOf
   frame-listed {number} listed =
-      inner-start (listed .found .on)
+      inner-start (listed .found .whole .on)
       (read-end (tableView (lent .table)) (numbered (NoFrameEntry (setup .y))) yend lineTable (frameEntries (setup .lengths .table)) (setup .y)
-      (listed .found .found) number (listed .up-to))
+      (frame-found setup lent (listed .found)) number (listed .up-to))
 
   -- of the frame entry found, where its line table starts is read
   pub line-table-listed : {entry : ℕ} → FrameEntry setup lent entry → Among (ofTable (lineTable entry)) (reads (view lent) starting)
   unfolding lineTableOf
   line-table-listed {entry} listed =
-      inner-start (listed .on)
-      (read-cell (tableView (lent .table)) (numbered (NoFrameEntry (setup .y))) yend lineTable (frameEntries (setup .lengths .table)) (setup .y) (listed .found))
+      inner-start (listed .whole .on)
+      (read-cell (tableView (lent .table)) (numbered (NoFrameEntry (setup .y))) yend lineTable (frameEntries (setup .lengths .table)) (setup .y) (frame-found setup lent listed))
 
   -- ---- where there is no frame entry
 
@@ -153,7 +154,7 @@ module _ (setup : Setup) (lent : Lent) where
     no-frame-read {cell} here =
         let found = start-inner (lacks .on) here in
         let at = refused-look-up-read (tableView (lent .table)) (numbered (NoFrameEntry (setup .y))) yend lineTable (frameEntries (setup .lengths .table)) (setup .y) (lacks .none) (found .here) in
-        subst (ListedTo setup lent noFrameEntry) (sym (found .is ∙ ap ofTable (at .is))) (record { on = lacks .on; within = at .below })
+        subst (ListedTo setup lent noFrameEntry) (sym (found .is ∙ ap ofTable (at .is))) (frame-whole setup lent (lacks .on) (at .below))
 
     -- without a frame entry every end is read
     pub no-frame-listed : (number : ℕ) → number < frameEntries (setup .lengths .table) → Among (ofTable (yend number)) (reads (view lent) starting)

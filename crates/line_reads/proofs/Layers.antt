@@ -1,6 +1,6 @@
 -- Which layer shows at a pixel: what the rule of a pixel finds is what the list says. Assumes nothing.
-use Prim.Native.Nat.{ℕ, _+_, _-_, _≤_, _<_}
-use mathlib.Core.Path.{_≡_, refl, sym, ap, subst, _∙_}
+use Prim.Native.Nat.{ℕ, _+_, _-_, _≤_}
+use mathlib.Core.Path.{_≡_, refl, sym, ap, _∙_}
 use mathlib.Core.Bool.{Bool, true, false, _&&_}
 use mathlib.Core.Logic.{_⊎_, inl, inr, _≢_, ⊎-elim}
 use native.Mathlib.Omega.{arith}
@@ -17,7 +17,7 @@ use Rattle.line_pixels.specs.Cursor.{cursorAt}
 use Rattle.line_pixels.specs.Colour.{shownColour, normalAt, overlayCounts, overlayAt}
 use Rattle.line_pixels.specs.declared.Screen.{Screen}
 use Rattle.line_pixels.proofs.CursorCases.{cursor-off, on-column, on-row, off-cross-hair, beside, beyond, in-glyph}
-use Rattle.line_reads.specs.ColourList.{GlyphListed, CrossHairHere, CursorShows, by-glyph, by-crosshair, CursorTransparent, BothSwitches, OverlayShows, OverlayTransparent, usedCell, wordShown}
+use Rattle.line_reads.specs.ColourList.{GlyphListed, CursorShows, by-glyph, by-crosshair, CursorTransparent, BothSwitches, OverlayShows, OverlayTransparent, usedCell, wordShown}
 
 module _ (memory : PixelCell → ℕ) (screen : Screen) (x : ℕ) where
   -- the cursor colour that the rule finds; 0 where it finds none

@@ -4,8 +4,10 @@ pub mod Layers
 pub mod Colours
 pub mod ListedColours
 pub mod LookUps
+pub mod Served
 pub mod Frames
 pub mod Pixels
+pub mod Having
 pub mod MetPixels
 pub mod Early
 pub mod OnlyListed

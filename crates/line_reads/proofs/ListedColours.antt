@@ -11,10 +11,8 @@ use Rattle.rules.proofs.Cases.{impossible}
 use Rattle.rules.proofs.Lists.{Among}
 use Rattle.rules.proofs.Value.{value-read}
 use Rattle.words.specs.Channels.{channelsOf}
-use Rattle.line_colour.specs.Shown.{shownOf}
 use Rattle.line_colour.specs.declared.entry.WindowEntry.{WindowEntry}
 use Rattle.line_colour.specs.declared.entry.Shown.{Shown}
-use Rattle.line_colour.specs.declared.entry.Shown.the-variants.{MapEntry}
 use Rattle.line_pixels.specs.Cells.{Channel, inRed, inGreen, inBlue, channelIn, PixelCell, glyph, cursorColour, overlayByte, sample, mapEntry, gamma}
 use Rattle.line_pixels.specs.Cursor.{inGlyph, cursorAt}
 use Rattle.line_pixels.specs.Colour.{throughGamma, shownColour, normalAt, plainAt, overlaid, overlayAt, underCursor, cursorShown, colourOfPixel}

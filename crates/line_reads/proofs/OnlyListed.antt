@@ -31,6 +31,7 @@ use Rattle.line_reads.proofs.Before.{never-colours, unread, passes, rea
 use Rattle.line_reads.proofs.Colours.{colour-read}
 use Rattle.line_reads.proofs.Frames.{starting, identifying, start-read, NoFrame, no-frame, frame-number, no-frame-read}
 use Rattle.line_reads.proofs.Pixels.{entering, pixel-read, entry-id, NoId, RefusedPixel, without-id, undefined, pixel-refused, no-id-read}
+use Rattle.line_reads.proofs.Having.{entry-has}
 use Rattle.line_reads.proofs.MetPixels.{AllIds, pixel-met, any-end-listed}
 
 module _ (setup : Setup) (lent : Lent) where
@@ -72,7 +73,7 @@ module _ (setup : Setup) (lent : Lent) where
           pixel = at .position;
           active = omega (arith, at .high);
           entry = at .value;
-          has = run-ok (view lent) (starting setup lent) _ (two .found) ∙ at .found;
+          has = entry-has setup lent (two .found) (at .position) (at .found);
           listed = colour-read (λ (c : PixelCell). view lent (ofColour c)) (screenIn setup) (at .value) (at .position) (inner .here);
         })
 

@@ -1,6 +1,6 @@
 -- What a line reads is on the paper's list, and so demand 3 holds by that list. Assumes nothing.
-use Prim.Native.Nat.{ℕ, suc, _≤_, _<_}
-use mathlib.Core.Path.{_≡_, refl, sym, ap, _∙_}
+use Prim.Native.Nat.{ℕ, suc, _≤_}
+use mathlib.Core.Path.{_≡_, refl, ap}
 use mathlib.Core.List.{List}
 use mathlib.Core.Logic.{⊎-elim}
 use native.Mathlib.Omega.{arith}
@@ -8,14 +8,9 @@ use native.Mathlib.Nat.{eq-or-lt-of-le}
 use lib.ListN.{length}
 use Rattle.rules.specs.Rule.{Outcome, ok, refused, run}
 use Rattle.rules.specs.Faults.{Numbered, placeIn}
-use Rattle.rules.proofs.Then.{run-ok}
 use Rattle.rules.proofs.Checked.{verdict-first}
-use Rattle.refusals.specs.Refusal.{numbered}
-use Rattle.refusals.specs.declared.Refusal.the-variants.{NoFrameEntry}
 use Rattle.line_colour.specs.declared.entry.WindowEntry.{WindowEntry}
-use Rattle.line_windows.specs.Table.{yend, lineTable, xend, windowId, tableView}
-use Rattle.line_windows.specs.Frame.{frameEntries}
-use Rattle.line_windows.proofs.Whole.{whole-tells}
+use Rattle.line_windows.specs.Table.{yend, lineTable, xend, windowId}
 use Rattle.line_setup.specs.Faults.{lineFaults}
 use Rattle.line_setup.specs.declared.setup.Setup.{Setup}
 use Rattle.line.specs.Cells.{Cell, ofTable, windowEntry, ofColour, Lent, view}
@@ -29,7 +24,8 @@ use Rattle.line_reads.specs.Listed.{UpToFault, of-7, of-8, of-9, ListedT
 use Rattle.line_reads.specs.PaperList.{PaperTo, PaperListed, AgreeOnPaper}
 use Rattle.line_reads.specs.Reasons.{ComesTo, Reason, at-once, no-frame-entry, no-line-entry, undefined-entry}
 use Rattle.line_reads.proofs.Frames.{starting, identifying, starts-found}
-use Rattle.line_reads.proofs.Pixels.{entry-id}
+use Rattle.line_reads.proofs.Served.{line-found}
+use Rattle.line_reads.proofs.Having.{has-id}
 use Rattle.line_reads.proofs.MetPixels.{AllIds, searched-for}
 use Rattle.line_reads.proofs.Early.{early}
 use Rattle.line_reads.proofs.Reasons.{refused-for}
@@ -43,11 +39,7 @@ module _ (setup : Setup) (lent : Lent) where
   found-searched : (frames : Search) {number : ℕ} → FrameEntry setup lent number → FrameListed setup lent frames number
   found-searched toTheOneFound {number} found = record { entry = number; found = found; up-to = omega arith }
   found-searched throughAll {number} found =
-      record {
-        on = found .on;
-        within =
-            whole-tells (tableView (lent .table)) (numbered (NoFrameEntry (setup .y))) yend (frameEntries (setup .lengths .table)) (setup .y) (found .found) .below;
-      }
+      found .whole
 
   -- each pixel met has an ID
   abbrev MetIds : Reach → Type 0
@@ -64,7 +56,8 @@ module _ (setup : Setup) (lent : Lent) where
         start = listed .start;
         starts = listed .starts;
         number = listed .entry;
-        searched = searched-for setup lent started (reach .lines) (listed .starts .on) (ids (listed .start) started) (listed .is-met) (listed .found) (omega arith);
+        searched = searched-for setup lent started (reach .lines) (listed .starts .found .whole .on) (ids (listed .start) started) (listed .is-met)
+            (line-found setup lent (listed .start) (listed .found)) (omega arith);
         stands = listed .stands;
       }
   longer reach ids (windowEntry id) listed = listed
@@ -75,7 +68,7 @@ module _ (setup : Setup) (lent : Lent) where
   module _ {start : ℕ} (started : run (view lent) (starting setup lent) ≡ ok start) where
     -- a pixel that has a window entry has an ID
     id-of : (x : ℕ) {entry : WindowEntry} → HasEntry setup lent x entry → (id : ℕ) × (run (view lent) (identifying setup lent start x) ≡ ok id)
-    id-of x has = entry-id setup lent start x (sym (run-ok (view lent) (starting setup lent) _ started) ∙ has)
+    id-of x at = (at .id, has-id setup lent started x (at .has))
 
     -- so has each pixel before one that a line comes to
     ids-before : {x : ℕ} → ComesTo setup lent x → AllIds setup lent started x
@@ -96,7 +89,7 @@ module _ (setup : Setup) (lent : Lent) where
     ids-9 is (undefined-entry clear x comes at e) =
         rw e (λ i below.
         let up-to : i ≤ x = omega arith in
-        ⊎-elim (λ same. (at .id, rw same (sym (run-ok (view lent) (starting setup lent) _ started) ∙ at .has))) (λ before. ids-before comes i before)
+        ⊎-elim (λ same. (at .id, rw same (has-id setup lent started x (at .has)))) (λ before. ids-before comes i before)
         (eq-or-lt-of-le up-to))
 
   -- ---- the line

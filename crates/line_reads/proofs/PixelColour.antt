@@ -8,7 +8,6 @@ use Rattle.rules.specs.Rule.{Outcome, ok, refused, run, value, _>>=_}
 use Rattle.rules.specs.Faults.{Numbered}
 use Rattle.rules.specs.Checked.{verdict}
 use Rattle.rules.proofs.Cases.{impossible}
-use Rattle.rules.proofs.Then.{run-ok}
 use Rattle.rules.proofs.Parts.{both}
 use Rattle.rules.proofs.EachOf.{answer-each-of}
 use Rattle.rules.proofs.Value.{run-within-value}
@@ -26,6 +25,7 @@ use Rattle.line_reads.specs.PixelColour.{HasColour}
 use Rattle.line_reads.proofs.Before.{refused-unread, passes}
 use Rattle.line_reads.proofs.Frames.{starting}
 use Rattle.line_reads.proofs.Pixels.{entering}
+use Rattle.line_reads.proofs.Having.{entry-has, one-entry}
 use Rattle.line_reads.proofs.OnlyListed.{passing}
 use Rattle.line_reads.proofs.Outputs.{drawn-line, word-drawn}
 
@@ -45,7 +45,7 @@ module _ (setup : Setup) (lent : Lent) where
       let made : run (view lent) (inColours (colourOfPixel screen (at .value) x)) ≡ ok (getD colours x 0) = rw zero-add at (at .made) in
       record {
         entry = at .value;
-        has = run-ok (view lent) (starting setup lent) _ (first .found) ∙ found;
+        has = entry-has setup lent (first .found) x found;
         is = cc (made, run-within-value (λ (refusal : ⊥). absurd refusal) ofColour (view lent) (colourOfPixel screen (at .value) x));
       }
 
@@ -62,7 +62,7 @@ module _ (setup : Setup) (lent : Lent) where
   -- a pixel has one colour
   pub one-colour : {x colour other : ℕ} → HasColour setup lent x colour → HasColour setup lent x other → colour ≡ other
   one-colour {x} first second =
-      let same : first .entry ≡ second .entry = cc (first .has, second .has) in
+      let same = one-entry setup lent (first .has) (second .has) in
       first .is
       ∙ ap (λ (entry : WindowEntry). value (λ cell. view lent (ofColour cell)) (colourOfPixel (screenIn setup) entry x)) same
       ∙ sym (second .is)

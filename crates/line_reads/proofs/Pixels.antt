@@ -22,7 +22,7 @@ use Rattle.line.specs.Cells.{Cell, ofTable, windowEntry, Lent, view}
 use Rattle.line.specs.Line.{definedAt, windowEntryAt}
 use Rattle.line.proofs.Entries.{run-in-table}
 use Rattle.line.proofs.Defined.{asks-nothing, refuses-undefined}
-use Rattle.line_reads.specs.TableList.{LineEntry}
+use Rattle.line_reads.proofs.Served.{LineFound}
 use Rattle.line_reads.proofs.LookUps.{LookedUpCell, an-end, its-cell, look-up-read, read-end, read-cell, refusal-named, refused-look-up-read, read-any-end}
 use Rattle.line_reads.proofs.Frames.{identifying, id-on, id-off}
 
@@ -33,9 +33,9 @@ module _ (setup : Setup) (lent : Lent) (start : ℕ) where
 
   -- the cells of a pixel that has an ID: ends up to that of its line entry, the ID in that, and the window entry of the ID
   pub data OfPixel (x : ℕ) (cell : Cell) : Type 0 where
-    pixel-end : setup .controls .ids ≡ true → (entry : ℕ) → LineEntry setup lent start x entry → (number : ℕ) → number ≤ entry
+    pixel-end : setup .controls .ids ≡ true → (entry : ℕ) → LineFound setup lent start x entry → (number : ℕ) → number ≤ entry
         → cell ≡ ofTable (endOf start number) → OfPixel x cell
-    pixel-id : setup .controls .ids ≡ true → (entry : ℕ) → LineEntry setup lent start x entry → cell ≡ ofTable (idCell start entry) → OfPixel x cell
+    pixel-id : setup .controls .ids ≡ true → (entry : ℕ) → LineFound setup lent start x entry → cell ≡ ofTable (idCell start entry) → OfPixel x cell
     pixel-window : (id : ℕ) → run (view lent) (identifying setup lent start x) ≡ ok id → cell ≡ windowEntry id → OfPixel x cell
 
   module _ (on : setup .controls .ids ≡ true) (x : ℕ) where
@@ -58,7 +58,7 @@ module _ (setup : Setup) (lent : Lent) (start : ℕ) where
         (within-read (λ (refusal : Numbered). refusal) ofTable (view lent) (idOf (setup .lengths .table) start x) here)
 
     -- a pixel that has an ID has it by a line entry
-    pub entry-of : {id : ℕ} → run (view lent) (identifying setup lent start x) ≡ ok id → (entry : ℕ) × LineEntry setup lent start x entry
+    pub entry-of : {id : ℕ} → run (view lent) (identifying setup lent start x) ≡ ok id → (entry : ℕ) × LineFound setup lent start x entry
     unfolding idOf
     entry-of e =
         let two = both (tableView (lent .table)) (lineEntryOf (setup .lengths .table) start x) _ (sym id-run ∙ e) in (two .first, two .found)

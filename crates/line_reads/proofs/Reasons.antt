@@ -8,7 +8,7 @@ use Rattle.rules.specs.Faults.{Numbered, Clear}
 use Rattle.rules.specs.Checked.{verdict}
 use Rattle.rules.proofs.Cases.{impossible}
 use Rattle.rules.proofs.Then.{run-ok, run-refused}
-use Rattle.rules.proofs.Parts.{both, Either, at-first, at-second, either}
+use Rattle.rules.proofs.Parts.{Either, at-first, at-second, either}
 use Rattle.rules.proofs.Each.{each-refuses, StopsAt, each-stops}
 use Rattle.rules.proofs.Asks.{never-refused}
 use Rattle.rules.proofs.Checked.{verdict-clear, verdict-first, first-verdict, clear-verdict}
@@ -30,6 +30,7 @@ use Rattle.line_reads.specs.Reasons.{NoFrameServes, NoLineEntryServes, U
 use Rattle.line_reads.proofs.Before.{never-colours, refused-unread, passes}
 use Rattle.line_reads.proofs.Frames.{starting, identifying, start-on, starts-at, starts-found, NoFrame, no-frame}
 use Rattle.line_reads.proofs.Pixels.{entering, id-run, RefusedPixel, without-id, undefined, pixel-refused}
+use Rattle.line_reads.proofs.Having.{has-start, id-has, has-id, entry-has, has-entry}
 use Rattle.line_reads.proofs.OnlyListed.{passing, answered-refused}
 
 module _ (setup : Setup) (lent : Lent) where
@@ -55,7 +56,7 @@ module _ (setup : Setup) (lent : Lent) where
       for-pixel x comes stops (undefined id found is place) =
           let says = refuses-undefined (view lent) x _ (sym (run-ok (view lent) (identifying setup lent start x) _ found) ∙ stops) in
           undefined-entry clear x comes
-          (record { id = id; has = run-ok (view lent) (starting setup lent) _ started ∙ found; says = says .0 }) (says .1)
+          (record { id = id; has = id-has setup lent started x found; says = says .0 }) (says .1)
 
       -- the line comes to the pixel at which the pass stops
       for-pass : {refusal : Numbered} → StopsAt (view lent) (entering setup lent start) (setup .controls .width) 0 refusal → Reason setup lent refusal
@@ -64,7 +65,7 @@ module _ (setup : Setup) (lent : Lent) where
           (record {
             active = omega (arith, at .high);
             earlier = λ i below.
-                let found = at .earlier i (omega arith) (omega arith) in (found .0, run-ok (view lent) (starting setup lent) _ started ∙ found .1);
+                let found = at .earlier i (omega arith) (omega arith) in (found .0, entry-has setup lent started i (found .1));
           })
           (at .stops) (pixel-refused setup lent start (at .position) (at .stops))
 
@@ -115,7 +116,7 @@ module _ (setup : Setup) (lent : Lent) where
       run-ok (view lent) (starting setup lent) _ started
       ∙ each-refuses (view lent) (entering setup lent start) (setup .controls .width) 0 x (omega arith) (omega (arith, comes .active))
       (λ i low below.
-      let found = comes .earlier i (omega arith) in (found .0, sym (run-ok (view lent) (starting setup lent) _ started) ∙ found .1))
+      let found = comes .earlier i (omega arith) in (found .0, has-entry setup lent started i (found .1)))
       stops
 
   -- a line that comes to a pixel that no line entry serves is refused by 8
@@ -124,7 +125,7 @@ module _ (setup : Setup) (lent : Lent) where
   id-refuses x comes none =
       pixel-decides (starts-found setup lent (none .starts)) x comes
       (run-refused (view lent) (identifying setup lent (none .start) x) _
-      (id-run setup lent (none .start) (none .starts .on) x
+      (id-run setup lent (none .start) (none .starts .found .whole .on) x
       ∙ id-of-none (tableView (lent .table)) (setup .lengths .table) (none .start) x
       (whole-misses (tableView (lent .table)) _ (endOf (none .start)) (lineEntries (setup .lengths .table) (none .start)) x (none .none))))
 
@@ -132,9 +133,9 @@ module _ (setup : Setup) (lent : Lent) where
   entry-refuses : (x : ℕ) → ComesTo setup lent x → UndefinedAt setup lent x → run (view lent) (entriesOf setup) ≡ refused (numbered (UndefinedEntry x))
   unfolding windowEntryAt
   entry-refuses x comes at =
-      let two = both (view lent) (starting setup lent) _ (at .has) in
-      pixel-decides (two .found) x comes
-      (run-ok (view lent) (identifying setup lent (two .first) x) _ (two .next) ∙ ap (λ (entry : Decoded). run (view lent) (definedAt x entry)) (at .says))
+      let start = has-start setup lent (at .has) in
+      pixel-decides (start .1) x comes
+      (run-ok (view lent) (identifying setup lent (start .0) x) _ (has-id setup lent (start .1) x (at .has)) ∙ ap (λ (entry : Decoded). run (view lent) (definedAt x entry)) (at .says))
 
   -- a line is refused for each reason
   pub for-refused : {refusal : Numbered} → Reason setup lent refusal → lineOf setup lent ≡ refused refusal

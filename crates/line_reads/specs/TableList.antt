@@ -1,43 +1,61 @@
--- Table and window entries that a line reads, as the paper lists them, by how far its searches go and how many pixels it meets.
-use Prim.Native.Nat.{ℕ, suc, _≤_, _<_}
+-- Table and window entries that a line reads, as the paper lists them, by how far its searches go and how many pixels it meets; which entry serves is said in the paper's own words and numbers, without the rule of a line.
+use Prim.Native.Nat.{ℕ, suc, _+_, _*_, _/_, _≤_, _<_}
 use mathlib.Core.Path.{_≡_}
-use mathlib.Core.Bool.{true}
-use Rattle.rules.specs.Rule.{ok, run, _>>=_}
+use mathlib.Core.Bool.{true, false}
+use Rattle.line_colour.specs.Entry.{decoded}
 use Rattle.line_colour.specs.declared.entry.WindowEntry.{WindowEntry}
-use Rattle.line_windows.specs.Table.{tableView}
-use Rattle.line_windows.specs.Frame.{frameEntries, frameOf, lineTableOf}
-use Rattle.line_windows.specs.Ids.{lineEntries, entryByte, lineEntryOf}
+use Rattle.line_colour.specs.declared.entry.Decoded.the-variants.{Defined}
+use Rattle.line_windows.specs.Table.{TableCell, yend, lineTable, xend, windowId, tableView}
 use Rattle.line_setup.specs.declared.setup.Setup.{Setup}
-use Rattle.line.specs.Cells.{Lent, view}
-use Rattle.line.specs.Line.{startOf, idAt, windowEntryAt}
+use Rattle.line.specs.Cells.{windowEntry, Lent, view}
 use Rattle.line_reads.specs.Reach.{Search, toTheOneFound, throughAll}
 
 module _ (setup : Setup) (lent : Lent) where
-  -- the line's frame entry; where window IDs are off there is none
+  -- what the fields of the table hold
+  abbrev tableFields : TableCell → ℕ
+  tableFields = tableView (lent .table)
+
+  -- ---- which entry serves
+
+  -- a frame entry has 4 bytes; of at most 2,048 whole ones it is one, where window IDs are on
+  pub record WholeFrameEntry (number : ℕ) : Type 0 where
+    pub on : setup .controls .ids ≡ true
+    pub at-most : number < 2048
+    pub in-table : 4 * number + 4 ≤ setup .lengths .table
+
+  -- the line's frame entry: the first with yend ≥ y
   pub record FrameEntry (entry : ℕ) : Type 0 where
-    pub on : setup .controls .ids ≡ true
-    pub found : run (tableView (lent .table)) (frameOf (setup .lengths .table) (setup .y)) ≡ ok entry
+    pub whole : WholeFrameEntry entry
+    pub reaches : setup .y ≤ tableFields (yend entry)
+    pub earlier : (i : ℕ) → i < entry → tableFields (yend i) < setup .y
 
-  -- the byte at which the line's table starts; where window IDs are off there is none
+  -- the byte at which the line's table starts: that frame entry's 512·block + 2·offset
   pub record StartsAt (start : ℕ) : Type 0 where
-    pub on : setup .controls .ids ≡ true
-    pub found : run (tableView (lent .table)) (lineTableOf (setup .lengths .table) (setup .y)) ≡ ok start
+    pub frame : ℕ
+    pub found : FrameEntry frame
+    pub is : start ≡ tableFields (lineTable frame)
 
-  -- pixel x has this entry of the line table that starts at a byte
-  abbrev pub LineEntry : ℕ → ℕ → ℕ → Type 0
-  LineEntry start x entry = run (tableView (lent .table)) (lineEntryOf (setup .lengths .table) start x) ≡ ok entry
+  -- a line entry has 2 bytes; it is a whole one of the line table that starts at a byte, which ends with its 512-byte block or the table
+  pub record WholeLineEntry (start number : ℕ) : Type 0 where
+    pub in-block : start + 2 * number + 2 ≤ 512 * (start / 512) + 512
+    pub in-table : start + 2 * number + 2 ≤ setup .lengths .table
 
-  -- pixel x has this ID
-  abbrev pub HasId : ℕ → ℕ → Type 0
-  HasId x id =
-      run (view lent)
-      (startOf (setup .controls) (setup .lengths .table) (setup .y) >>= (λ start. idAt (setup .controls) (setup .lengths .table) start x)) ≡ ok id
+  -- the line entry of pixel x: the first with xend ≥ x
+  pub record LineEntry (start x entry : ℕ) : Type 0 where
+    pub whole : WholeLineEntry start entry
+    pub reaches : x ≤ tableFields (xend (start + 2 * entry))
+    pub earlier : (i : ℕ) → i < entry → tableFields (xend (start + 2 * i)) < x
 
-  -- pixel x has this window entry, and it is defined
-  abbrev pub HasEntry : ℕ → WindowEntry → Type 0
-  HasEntry x entry =
-      run (view lent)
-      (startOf (setup .controls) (setup .lengths .table) (setup .y) >>= (λ start. windowEntryAt (setup .controls) (setup .lengths .table) start x)) ≡ ok entry
+  -- pixel x has this ID: 0 where window IDs are off, else that of its line entry
+  pub data HasId (x id : ℕ) : Type 0 where
+    ids-off : setup .controls .ids ≡ false → id ≡ 0 → HasId x id
+    ids-on : (start : ℕ) → StartsAt start → (entry : ℕ) → LineEntry start x entry → id ≡ tableFields (windowId (start + 2 * entry)) → HasId x id
+
+  -- pixel x has this window entry: it is that of the pixel's ID, and it is defined at the depth
+  pub record HasEntry (x : ℕ) (entry : WindowEntry) : Type 0 where
+    pub id : ℕ
+    pub has : HasId x id
+    pub says : decoded (view lent (windowEntry id)) (setup .controls .depth) ≡ Defined entry
 
   -- ---- frame entries
 
@@ -47,15 +65,10 @@ module _ (setup : Setup) (lent : Lent) where
     pub found : FrameEntry entry
     pub up-to : number ≤ entry
 
-  -- a frame entry, whichever
-  pub record AnyFrameEntry (number : ℕ) : Type 0 where
-    pub on : setup .controls .ids ≡ true
-    pub within : number < frameEntries (setup .lengths .table)
-
   -- ends of frame entries, as far as they are searched
   abbrev pub FrameListed : Search → ℕ → Type 0
   FrameListed toTheOneFound number = UpToFrameEntry number
-  FrameListed throughAll number = AnyFrameEntry number
+  FrameListed throughAll number = WholeFrameEntry number
 
   -- ---- line entries
 
@@ -70,7 +83,7 @@ module _ (setup : Setup) (lent : Lent) where
   -- line entries, as far as they are searched for `met` pixels or for the one behind these
   abbrev pub Searched : Search → ℕ → ℕ → ℕ → Type 0
   Searched toTheOneFound met start number = UpToLastEntry met start number
-  Searched throughAll met start number = number < lineEntries (setup .lengths .table) start
+  Searched throughAll met start number = WholeLineEntry start number
 
   -- ends of line entries, as far as they are searched
   pub record LineListed (lines : Search) (met byte : ℕ) : Type 0 where
@@ -78,7 +91,7 @@ module _ (setup : Setup) (lent : Lent) where
     pub starts : StartsAt start
     pub number : ℕ
     pub searched : Searched lines met start number
-    pub stands : byte ≡ entryByte start number
+    pub stands : byte ≡ start + 2 * number
 
   -- of `met` pixels, the ID in the line entry of each
   pub record IdListed (met byte : ℕ) : Type 0 where
@@ -88,7 +101,7 @@ module _ (setup : Setup) (lent : Lent) where
     pub is-met : pixel < met
     pub entry : ℕ
     pub found : LineEntry start pixel entry
-    pub stands : byte ≡ entryByte start entry
+    pub stands : byte ≡ start + 2 * entry
 
   -- ---- window entries
 
