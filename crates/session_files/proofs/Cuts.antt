@@ -51,7 +51,7 @@ module _ (held : Held) (unread : List ℕ) (pieces : List (List ℕ)) {after : H
   lists-whole = step-of-whole held unread pieces (λ more. impossible cc) ∙ e
 
   -- behind its record the same bytes are left
-  lists-rest : drop taken (unread ++ joined pieces) ≡ drop taken unread ++ joined pieces
+  pub lists-rest : drop taken (unread ++ joined pieces) ≡ drop taken unread ++ joined pieces
   lists-rest =
       let takes = listed-takes (none pieces) held unread lists-entry in
       let enough : taken ≤ length unread = rw (sym takes ∙ ap (λ (s : (Held × ℕ) × Status). s .0 .1) e) at (listed-there (none pieces) held unread lists-entry) in

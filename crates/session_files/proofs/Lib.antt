@@ -10,6 +10,7 @@ pub mod GoOn
 pub mod Good
 pub mod Exact
 pub mod Ends
+pub mod Found
 pub mod Lines
 pub mod Answers
 pub mod Among

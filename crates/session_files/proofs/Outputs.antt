@@ -30,6 +30,7 @@ use Rattle.session.specs.Held.{Held, nothingHeld}
 use Rattle.session.specs.Record.{entryOf, atPosition, statusBy, contextOf, stepped}
 use Rattle.session.specs.Listing.{listingFrom, listing}
 use Rattle.session_files.specs.Outputs.{withOutput}
+use Rattle.session_files.specs.Ends.{isEnd, endsFrom, reachesEnd}
 use Rattle.session_files.proofs.Step.{by-found}
 
 -- two steps that leave, take, come to and list the same, but for the output that they leave
@@ -153,3 +154,22 @@ listing-over (suc count) held output bytes long =
 pub listing-any-output : (output file : List ℕ) → length output ≡ longestLine → listingFrom (mostRecords + 1) (withOutput nothingHeld output) file ≡ listing file
 unfolding listing
 listing-any-output output file long = listing-over (mostRecords + 1) nothingHeld output file (long ∙ sym (length-replicate {A = ℕ} longestLine 0))
+
+-- further records reach the end record or not, over any output as long
+pub ends-over : (count : ℕ) (held : Held) (output bytes : List ℕ) → length output ≡ length (held .output)
+    → endsFrom count (withOutput held output) bytes ≡ endsFrom count held bytes
+ends-over zero held output bytes long = refl
+ends-over (suc count) held output bytes long =
+    let same = step-alike held output long true bytes in
+    let one = stepped true (withOutput held output) bytes in
+    let other = stepped true held bytes in
+    let further : endsFrom count (one .0 .0) (drop (one .0 .1) bytes) ≡ endsFrom count (other .0 .0) (drop (other .0 .1) bytes) =
+    ap (λ (next : Held). endsFrom count next (drop (one .0 .1) bytes)) (same .same-held)
+    ∙ ap (λ (taken : ℕ). endsFrom count (withOutput (other .0 .0) (one .0 .0 .output)) (drop taken bytes)) (same .same-taken)
+    ∙ ends-over count (other .0 .0) (one .0 .0 .output) (drop (other .0 .1) bytes) (same .same-length) in
+    ap₂ (λ (status : Status) (rest : Bool). cond (goesOn status) rest (isEnd status)) (same .same-status) further
+
+-- whether the run over a file reaches its end record doesn't rest on what the output held at first
+pub end-any-output : (output file : List ℕ) → length output ≡ longestLine → endsFrom (mostRecords + 1) (withOutput nothingHeld output) file ≡ reachesEnd file
+unfolding reachesEnd
+end-any-output output file long = ends-over (mostRecords + 1) nothingHeld output file (long ∙ sym (length-replicate {A = ℕ} longestLine 0))

@@ -7,6 +7,9 @@ use Rattle.session_records.specs.Tags.{mostRecords}
 use Rattle.session_answers.specs.Status.{Status, listed, ended, needsMore, stopped, goesOn}
 use Rattle.session.specs.Held.{Held, nothingHeld}
 use Rattle.session.specs.Record.{stepped}
+use Rattle.session.specs.Lent.{Rooms}
+use Rattle.session.specs.declared.session.Session.{Session}
+use Rattle.session_files.specs.Calls.{Calls, adds, moves, waits, lists, ends, stops}
 
 -- a step found the end record
 abbrev pub isEnd : Status → Bool
@@ -36,3 +39,13 @@ reachesEnd file = endsFrom (mostRecords + 1) nothingHeld file
 -- the bytes of a file up to its end record, with it
 unfoldable pub toEnd : List ℕ → ℕ
 toEnd file = takenFrom (mostRecords + 1) nothingHeld file
+
+-- the last of some calls finds the end record, and no fault of the file
+abbrev pub findsEnd : {session : Session} {rooms : Rooms} {bytes : List ℕ} {place : ℕ} {pieces : List (List ℕ)} {written : List ℕ}
+    → Calls session rooms bytes place pieces written → Bool
+findsEnd (adds behind others) = findsEnd others
+findsEnd (moves same others) = findsEnd others
+findsEnd (waits is others) = findsEnd others
+findsEnd (lists is others) = findsEnd others
+findsEnd (ends is) = true
+findsEnd (stops is) = false
