@@ -28,8 +28,8 @@ use Rattle.c_files.proofs.Told.{Told, told}
 use Rattle.c_files.proofs.Lists.{calls-of-c}
 
 module _ (session : Session) (rooms : Rooms) (lent bytes : List ℕ) (place : ℕ) (last : Bool) (ready : Ready session rooms) (long : textRoom ≤ length lent) where
-  -- a call answers what the step over what is held comes to
-  call-answers : stepInNumbers session rooms lent bytes place last ≡ stepLeft (left session rooms bytes place last, ok (stepped last (heldIn session rooms) (drop place bytes) .1)) lent
+  -- a call answers what the step over what is held comes to, and puts its text
+  pub call-answers : stepInNumbers session rooms lent bytes place last ≡ stepLeft (left session rooms bytes place last, ok (stepped last (heldIn session rooms) (drop place bytes) .1)) lent
   call-answers =
       sym (step-of-session session rooms lent bytes place last long)
       ∙ ap (λ (all : Left × Outcome Numbered Status). stepLeft all lent) (call-comes session rooms bytes place last ready refl)
@@ -92,4 +92,4 @@ answers-not-11 {session} {rooms} {bytes} {place} {pieces} ready good (stops {lef
 -- from a zeroed store, no answer of C's calls on a new session has a refusal by 11
 pub c-never-11 : {rooms : Rooms} {bytes : List ℕ} {pieces : List (List ℕ)} {written : List ℕ} → Zeroed rooms
     → (calls : CallsOfC (sessionOf nothingHeld) rooms bytes 0 pieces written) → EachAnswers AnswerNot11 calls
-c-never-11 {rooms} zeroed calls = answers-not-11 (first-ready zeroed (calls-right (calls-of-c calls))) (first-good rooms) calls
+c-never-11 {rooms} zeroed calls = answers-not-11 (first-ready zeroed (calls-right (calls-of-c calls .0))) (first-good rooms) calls

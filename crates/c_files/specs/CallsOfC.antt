@@ -59,6 +59,16 @@ LentOnDemandToC waited (waits call three others) = (waited ≡ false) × LentOnD
 LentOnDemandToC waited (ends call two) = waited ≡ false
 LentOnDemandToC waited (stops call four) = waited ≡ false
 
+-- the last of some calls has status 2, and not 4
+abbrev pub findsEndForC : {session : Session} {rooms : Rooms} {bytes : List ℕ} {place : ℕ} {pieces : List (List ℕ)} {written : List ℕ}
+    → CallsOfC session rooms bytes place pieces written → Bool
+findsEndForC (adds behind others) = findsEndForC others
+findsEndForC (moves same others) = findsEndForC others
+findsEndForC (lists call one others) = findsEndForC others
+findsEndForC (waits call three others) = findsEndForC others
+findsEndForC (ends call two) = true
+findsEndForC (stops call four) = false
+
 -- each call of some is answered so
 abbrev pub EachAnswers : {session : Session} {rooms : Rooms} {bytes : List ℕ} {place : ℕ} {pieces : List (List ℕ)} {written : List ℕ}
     → (SteppedNumbers → Type 0) → CallsOfC session rooms bytes place pieces written → Type 0
