@@ -4,3 +4,5 @@ pub mod Turns
 pub mod Reading
 pub mod Waits
 pub mod Loop
+pub mod Taken
+pub mod Listed

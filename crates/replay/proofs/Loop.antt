@@ -15,13 +15,13 @@ use Rattle.session.specs.Lent.{Rooms, heldIn}
 use Rattle.session.specs.declared.session.Session.{Session}
 use Rattle.session_files.proofs.Step as step
 use Rattle.session_files.proofs.Calls.{same-status, same-place}
-use Rattle.replay.specs.Run.{Run, runOf, begun, goesOnTurning, unreadIn, goingAfter, afterTaking, hasRoom, turned}
+use Rattle.replay.specs.Run.{RunAt, runOf, begun, goingSo, goesOnTurning, unreadIn, goingAfter, afterTaking, hasRoom, turned}
 use Rattle.replay.specs.Inner.{AfterWriting, AfterReading, took, again, failed, AfterServing}
-use Rattle.replay.specs.Ran.{asks, waits, unread, served, Ran, starts, turns, writes, reads, tries, ends, breaks, Reached}
+use Rattle.replay.specs.Runs.{asksAfter, waitsAfter, unreadAfter, servedSo, RunsTo, starts, turns, writes, reads, retries, fails, ends, breaks, Reached}
 use Rattle.replay.specs.declared.course.Going.{Going}
 use Rattle.replay.specs.declared.course.Going.the-variants.{On, Full, Read, Over, Unread, Unwritten}
 use Rattle.replay.specs.declared.course.Course.{Course}
-use Rattle.replay.proofs.Turns.{stepOf, turned-full, turned-on}
+use Rattle.replay.proofs.Turns.{stepOf, roomIn, turned-full, turned-on}
 use Rattle.replay.proofs.Waits.{waits-short}
 
 -- only a run that goes on makes another turn
@@ -36,26 +36,24 @@ on-only Unwritten e = impossible (cc e)
 -- ---- what a turn leaves
 
 -- a turn finds room, or not
-data Turns (run : Run) : Type 0 where
-  steps : turned run ≡ afterTaking run (stepOf run) → Turns run
-  full : asks run ≡ Full → turned run .course .to ≡ run .course .to → turned run .input ≡ run .input → Turns run
+pub data Turns (run : RunAt) : Type 0 where
+  steps : roomIn run → turned run ≡ afterTaking run (stepOf run) → Turns run
+  full : turned run ≡ runOf (goingSo (run .course) Full) (run .session) (run .rooms) (run .input) (run .lines) → Turns run
 
-module _ (run : Run) where
+module _ (run : RunAt) where
   -- by whether there is room
   turns-by : (test : Bool) → hasRoom (length (run .lines)) (run .course .put) (length (run .rooms .output)) ≡ test → Turns run
-  turns-by true e = steps (turned-on run e)
-  turns-by false e =
-      let is = turned-full run e in
-      full (ap (λ (after : Run). after .course .going) is) (ap (λ (after : Run). after .course .to) is) (ap (λ (after : Run). after .input) is)
+  turns-by true e = steps e (turned-on run e)
+  turns-by false e = full (turned-full run e)
 
   -- every turn is one of the two
-  a-turn : Turns run
+  pub a-turn : Turns run
   a-turn = turns-by (hasRoom (length (run .lines)) (run .course .put) (length (run .rooms .output))) refl
 
   -- by whether there is room: the input stays, and the bytes end where they did
   stays-by : Turns run → (turned run .course .to ≡ run .course .to) × (turned run .input ≡ run .input)
-  stays-by (steps is) = (ap (λ (after : Run). after .course .to) is, ap (λ (after : Run). after .input) is)
-  stays-by (full is to input) = (to, input)
+  stays-by (steps room is) = (ap (λ (after : RunAt). after .course .to) is, ap (λ (after : RunAt). after .input) is)
+  stays-by (full is) = (ap (λ (after : RunAt). after .course .to) is, ap (λ (after : RunAt). after .input) is)
 
   -- the bytes that wait stay within the input
   pub turned-inside : run .course .to ≤ length (run .input) → turned run .course .to ≤ length (turned run .input)
@@ -78,18 +76,18 @@ module _ (run : Run) where
   no-failure (refused refusal) e = impossible (cc e)
 
   -- a turn doesn't break off: it doesn't read
-  never-unread : asks run ≡ Unread → Turns run → ⊥
-  never-unread e (steps is) = no-break (stepOf run .1) (sym (ap (λ (after : Run). after .course .going) is) ∙ e)
-  never-unread e (full is to input) = impossible (cc (sym is ∙ e))
+  never-unread : asksAfter run ≡ Unread → Turns run → ⊥
+  never-unread e (steps room is) = no-break (stepOf run .1) (sym (ap (λ (after : RunAt). after .course .going) is) ∙ e)
+  never-unread e (full is) = impossible (cc (sym (ap (λ (after : RunAt). after .course .going) is) ∙ e))
 
   -- nor does it write
-  never-unwritten : asks run ≡ Unwritten → Turns run → ⊥
-  never-unwritten e (steps is) = no-failure (stepOf run .1) (sym (ap (λ (after : Run). after .course .going) is) ∙ e)
-  never-unwritten e (full is to input) = impossible (cc (sym is ∙ e))
+  never-unwritten : asksAfter run ≡ Unwritten → Turns run → ⊥
+  never-unwritten e (steps room is) = no-failure (stepOf run .1) (sym (ap (λ (after : RunAt). after .course .going) is) ∙ e)
+  never-unwritten e (full is) = impossible (cc (sym (ap (λ (after : RunAt). after .course .going) is) ∙ e))
 
   -- the bytes that are unread after a step
-  pub unread-after : turned run ≡ afterTaking run (stepOf run) → unread run ≡ drop (stepOf run .0 .0 .1) (take (run .course .to) (run .input))
-  unread-after is = ap (λ (after : Run). unreadIn (after .course) (after .input)) is
+  pub unread-after : turned run ≡ afterTaking run (stepOf run) → unreadAfter run ≡ drop (stepOf run .0 .0 .1) (take (run .course .to) (run .input))
+  unread-after is = ap (λ (after : RunAt). unreadIn (after .course) (after .input)) is
 
   -- by what a step found that waits
   few-found : let held = heldIn (run .session) (run .rooms) in let bytes = drop (run .course .from) (take (run .course .to) (run .input)) in
@@ -101,7 +99,7 @@ module _ (run : Run) where
   few-found e (step.stops is s) = impossible cc
 
   -- by what its step comes to
-  few-after : turned run ≡ afterTaking run (stepOf run) → asks run ≡ Read → (outcome : Outcome Numbered Status) → stepOf run .1 ≡ outcome → length (unread run) ≤ 65537
+  few-after : turned run ≡ afterTaking run (stepOf run) → asksAfter run ≡ Read → (outcome : Outcome Numbered Status) → stepOf run .1 ≡ outcome → length (unreadAfter run) ≤ 65537
   few-after is e (ok needsMore) o =
       let bytes = take (run .course .to) (run .input) in
       let from = run .course .from in
@@ -111,35 +109,35 @@ module _ (run : Run) where
       let few = few-found (same-status (run .session) (run .rooms) bytes from last waited) (step.step last held (drop from bytes)) in
       let place = ap length (unread-after is ∙ same-place (run .session) (run .rooms) bytes from last waited) in
       omega (arith, few, place, length-drop (stepped last held (drop from bytes) .0 .1) (drop from bytes))
-  few-after is e (ok (listed entry)) o = impossible (cc (sym e ∙ ap (λ (after : Run). after .course .going) is ∙ ap goingAfter o))
-  few-after is e (ok ended) o = impossible (cc (sym e ∙ ap (λ (after : Run). after .course .going) is ∙ ap goingAfter o))
-  few-after is e (ok (stopped refusal)) o = impossible (cc (sym e ∙ ap (λ (after : Run). after .course .going) is ∙ ap goingAfter o))
-  few-after is e (refused refusal) o = impossible (cc (sym e ∙ ap (λ (after : Run). after .course .going) is ∙ ap goingAfter o))
+  few-after is e (ok (listed entry)) o = impossible (cc (sym e ∙ ap (λ (after : RunAt). after .course .going) is ∙ ap goingAfter o))
+  few-after is e (ok ended) o = impossible (cc (sym e ∙ ap (λ (after : RunAt). after .course .going) is ∙ ap goingAfter o))
+  few-after is e (ok (stopped refusal)) o = impossible (cc (sym e ∙ ap (λ (after : RunAt). after .course .going) is ∙ ap goingAfter o))
+  few-after is e (refused refusal) o = impossible (cc (sym e ∙ ap (λ (after : RunAt). after .course .going) is ∙ ap goingAfter o))
 
   -- by whether there is room
-  few-by : Turns run → asks run ≡ Read → length (unread run) ≤ 65537
-  few-by (steps is) e = few-after is e (stepOf run .1) refl
-  few-by (full is to input) e = impossible (cc (sym is ∙ e))
+  few-by : Turns run → asksAfter run ≡ Read → length (unreadAfter run) ≤ 65537
+  few-by (steps room is) e = few-after is e (stepOf run .1) refl
+  few-by (full is) e = impossible (cc (sym (ap (λ (after : RunAt). after .course .going) is) ∙ e))
 
   -- a turn that waits leaves at most 65,537 bytes unread
-  pub waits-few : asks run ≡ Read → length (unread run) ≤ 65537
+  pub waits-few : asksAfter run ≡ Read → length (unreadAfter run) ≤ 65537
   waits-few = few-by a-turn
 
 -- ---- a turn, and what it asks for
 
-module _ {start : Run} (run : Run) (on : run .course .going ≡ On) (here : Reached start run) where
+module _ {start : RunAt} (run : RunAt) (on : run .course .going ≡ On) (here : Reached start run) where
   -- it takes the run on
-  reaches : (going : Going) → asks run ≡ going → {next : Course} {more : List ℕ} → AfterServing going (turned run .course) (turned run .input) next more
-      → Reached start (served run next more)
+  reaches : (going : Going) → asksAfter run ≡ going → {next : Course} {more : List ℕ} → AfterServing going (turned run .course) (turned run .input) next more
+      → Reached start (servedSo run next more)
   reaches On e (same, kept) = rw (same, kept) (here .0, (here .1 .0, turns (here .1 .1) on e))
-  reaches Full e (inl wrote, kept) = rw (wrote, kept) (here .0, (here .1 .0 ++ waits run, writes (here .1 .1) on e))
+  reaches Full e (inl wrote, kept) = rw (wrote, kept) (here .0, (here .1 .0 ++ waitsAfter run, writes (here .1 .1) on e))
   reaches Full e (inr broke, kept) = rw (broke, kept) (here .0, (here .1 .0, breaks (here .1 .1) on))
   reaches Read e (inl (broke, kept)) = rw (broke, kept) (here .0, (here .1 .0, breaks (here .1 .1) on))
   reaches Read e (inr (took piece is front)) =
-      rw is (here .0 ++ piece ∷ [], (here .1 .0 ++ waits run, reads (here .1 .1) on e piece (rw is at front)))
-  reaches Read e (inr (again is front)) = rw is (here .0, (here .1 .0 ++ waits run, tries (here .1 .1) on e On (rw is at front)))
-  reaches Read e (inr (failed is front)) = rw is (here .0, (here .1 .0 ++ waits run, tries (here .1 .1) on e Unread (rw is at front)))
-  reaches Over e (inl wrote, kept) = rw (wrote, kept) (here .0, (here .1 .0 ++ waits run, ends (here .1 .1) on e))
+      rw is (here .0 ++ piece ∷ [], (here .1 .0 ++ waitsAfter run, reads (here .1 .1) on e piece (rw is at front)))
+  reaches Read e (inr (again is front)) = rw is (here .0, (here .1 .0 ++ waitsAfter run, retries (here .1 .1) on e (rw is at front)))
+  reaches Read e (inr (failed is front)) = rw is (here .0, (here .1 .0 ++ waitsAfter run, fails (here .1 .1) on e (rw is at front)))
+  reaches Over e (inl wrote, kept) = rw (wrote, kept) (here .0, (here .1 .0 ++ waitsAfter run, ends (here .1 .1) on e))
   reaches Over e (inr broke, kept) = rw (broke, kept) (here .0, (here .1 .0, breaks (here .1 .1) on))
   reaches Unread e (same, kept) = absurd (never-unread run e (a-turn run))
   reaches Unwritten e (same, kept) = absurd (never-unwritten run e (a-turn run))
@@ -167,7 +165,7 @@ serves-inside Unread course input next more (same, kept) inside = rw (same, kept
 serves-inside Unwritten course input next more (same, kept) inside = rw (same, kept) inside
 
 -- where a run is within its input, and how it was reached
-pub record Running (start run : Run) : Type 0 where
+pub record Running (start run : RunAt) : Type 0 where
   pub inside : run .course .to ≤ length (run .input)
   pub reached : Reached start run
 
@@ -176,19 +174,19 @@ pub running-start : (session : Session) (rooms : Rooms) (input lines : List ℕ)
 running-start session rooms input lines = record { inside = omega arith; reached = ([], ([], starts)) }
 
 -- after a turn that waits there is room for more bytes
-pub serves-room : (run after : Run) → after ≡ turned run → run .course .to ≤ length (run .input) → 65538 ≤ length (run .input)
+pub serves-room : (run after : RunAt) → after ≡ turned run → run .course .to ≤ length (run .input) → 65538 ≤ length (run .input)
     → (after .course .to ≤ length (after .input)) × (after .course .going ≡ Read → length (unreadIn (after .course) (after .input)) < length (after .input))
 serves-room run after is inside long =
-    subst (λ (one : Run). (one .course .to ≤ length (one .input)) × (one .course .going ≡ Read → length (unreadIn (one .course) (one .input)) < length (one .input))) (sym is)
-    (turned-inside run inside, λ waits. omega (arith, waits-few run waits, long, ap length (stays-by run (a-turn run) .1)))
+    subst (λ (one : RunAt). (one .course .to ≤ length (one .input)) × (one .course .going ≡ Read → length (unreadIn (one .course) (one .input)) < length (one .input))) (sym is)
+    (turned-inside run inside, λ short. omega (arith, waits-few run short, long, ap length (stays-by run (a-turn run) .1)))
 
 -- a turn and what it asks for take it on
-pub running-next : {start : Run} (run after : Run) → Running start run → goesOnTurning (run .course .going) ≡ true → after ≡ turned run → {next : Course} {more : List ℕ}
+pub running-next : {start : RunAt} (run after : RunAt) → Running start run → goesOnTurning (run .course .going) ≡ true → after ≡ turned run → {next : Course} {more : List ℕ}
     → AfterServing (after .course .going) (after .course) (after .input) next more → Running start (runOf next (after .session) (after .rooms) more (after .lines))
 running-next {start} run after running goes is {next} {more} =
-    subst (λ (one : Run). AfterServing (one .course .going) (one .course) (one .input) next more → Running start (runOf next (one .session) (one .rooms) more (one .lines))) (sym is)
+    subst (λ (one : RunAt). AfterServing (one .course .going) (one .course) (one .input) next more → Running start (runOf next (one .session) (one .rooms) more (one .lines))) (sym is)
     (λ serving.
     record {
-      inside = serves-inside (asks run) (turned run .course) (turned run .input) next more serving (turned-inside run (running .inside));
-      reached = reaches run (on-only (run .course .going) goes) (running .reached) (asks run) refl serving;
+      inside = serves-inside (asksAfter run) (turned run .course) (turned run .input) next more serving (turned-inside run (running .inside));
+      reached = reaches run (on-only (run .course .going) goes) (running .reached) (asksAfter run) refl serving;
     })

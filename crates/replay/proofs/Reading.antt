@@ -1,6 +1,7 @@
 -- What a read leaves, from the bytes moved to the front and those put behind them. Assumes nothing.
-use Prim.Native.Nat.{ℕ, _+_, _-_, _≤_}
+use Prim.Native.Nat.{ℕ, suc, _+_, _≤_}
 use mathlib.Core.Path.{_≡_, refl, sym, ap, ap₂, subst, _∙_}
+use mathlib.Core.Bool.{true, false}
 use mathlib.Core.List.{List, _++_}
 use mathlib.Core.Logic.{_⊎_, inl, inr}
 use native.Mathlib.Omega.{arith}
@@ -41,3 +42,11 @@ module _ (course : Course) (input : List ℕ) (inside : course .to ≤ length in
         sym (length-take-le count (drop kept more) (omega (arith, there, length-drop kept more))) in
         took (take count (drop kept more)) (is ∙ ap₂ (takenIn course) kept-many many)
         (rw is (take-add kept count more ∙ ap (λ (bytes : List ℕ). bytes ++ take count (drop kept more)) (stays ∙ kept-front)))
+
+-- a read that puts nothing is the end of the file
+pub nothing-ends : (course : Course) (kept : ℕ) → takenIn course kept 0 .last ≡ true
+nothing-ends course kept = refl
+
+-- a read that puts something is not
+pub something-goes-on : (course : Course) (kept count : ℕ) → takenIn course kept (suc count) .last ≡ false
+something-goes-on course kept count = refl

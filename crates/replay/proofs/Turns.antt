@@ -10,22 +10,22 @@ use Rattle.session_answers.specs.Status.{Status}
 use Rattle.session.specs.Lent.{Rooms}
 use Rattle.session.specs.Step.{Left, sessionStep}
 use Rattle.session.specs.declared.session.Session.{Session}
-use Rattle.replay.specs.Run.{Run, runOf, courseOf, goingSo, goingAfter, addedBy, putBehind, afterTaking, hasRoom, turned}
+use Rattle.replay.specs.Run.{RunAt, runOf, courseOf, goingSo, goingAfter, addedBy, putBehind, afterTaking, hasRoom, turned}
 use Rattle.replay.specs.declared.course.Going.the-variants.{Full}
 
 -- the step that a turn makes
-abbrev pub stepOf : Run → Left × Outcome Numbered Status
+abbrev pub stepOf : RunAt → Left × Outcome Numbered Status
 stepOf run = sessionStep (run .session) (run .rooms) (take (run .course .to) (run .input)) (run .course .from) (run .course .last)
 
 -- there is room for the text of a turn
-abbrev pub roomIn : Run → Type 0
+abbrev pub roomIn : RunAt → Type 0
 roomIn run = hasRoom (length (run .lines)) (run .course .put) (length (run .rooms .output)) ≡ true
 
 -- there is no room for it
-abbrev pub fullIn : Run → Type 0
+abbrev pub fullIn : RunAt → Type 0
 fullIn run = hasRoom (length (run .lines)) (run .course .put) (length (run .rooms .output)) ≡ false
 
-module _ (run : Run) where
+module _ (run : RunAt) where
   -- without room all is as it was, and the text is to be written out
   pub turned-full : fullIn run → turned run ≡ runOf (goingSo (run .course) Full) (run .session) (run .rooms) (run .input) (run .lines)
   unfolding turned

@@ -1,3 +1,3 @@
 pub mod Run
 pub mod Inner
-pub mod Ran
+pub mod Runs

@@ -39,7 +39,7 @@ goesOnTurning Unread = false
 goesOnTurning Unwritten = false
 
 -- a run: how far it is, its session and rooms, the input and the text
-pub record Run : Type 0 where
+pub record RunAt : Type 0 where
   pub course : Course
   pub session : Session
   pub rooms : Rooms
@@ -47,7 +47,7 @@ pub record Run : Type 0 where
   pub lines : List ℕ
 
 -- the five of them as one
-abbrev pub runOf : Course → Session → Rooms → List ℕ → List ℕ → Run
+abbrev pub runOf : Course → Session → Rooms → List ℕ → List ℕ → RunAt
 runOf course session rooms input lines = record { course = course; session = session; rooms = rooms; input = input; lines = lines }
 
 -- the bytes of the input that are unread
@@ -55,8 +55,8 @@ abbrev pub unreadIn : Course → List ℕ → List ℕ
 unreadIn course input = slice (course .from) (course .to) input
 
 -- the text that waits
-abbrev pub waitsIn : Course → List ℕ → List ℕ
-waitsIn course lines = take (course .put) lines
+abbrev pub textWaiting : Course → List ℕ → List ℕ
+textWaiting course lines = take (course .put) lines
 
 -- how a run goes on after a step that comes to this: more bytes are read where it waits, and it is over with the end, a fault or a refusal
 abbrev pub goingAfter : Outcome Numbered Status → Going
@@ -76,7 +76,7 @@ abbrev pub putBehind : List ℕ → ℕ → List ℕ → ℕ × List ℕ
 putBehind lines put bytes = (put + length bytes, placed lines put bytes)
 
 -- a run after a step that left and came to this: at the next place, with the added text behind the text that waits
-abbrev pub afterTaking : Run → Left × Outcome Numbered Status → Run
+abbrev pub afterTaking : RunAt → Left × Outcome Numbered Status → RunAt
 afterTaking run step =
     let more = putBehind (run .lines) (run .course .put) (addedBy (step .0 .1 .output) (step .1)) in
     runOf (courseOf (step .0 .0 .1) (run .course .to) (run .course .last) (more .0) (goingAfter (step .1))) (step .0 .0 .0) (step .0 .1) (run .input) (more .1)
@@ -86,7 +86,7 @@ abbrev pub hasRoom : ℕ → ℕ → ℕ → Bool
 hasRoom lines put output = leb (put + roomOf output) lines
 
 -- a turn: one step on the unread bytes, where there is room for its text; else the text has to be written out first
-unfoldable pub turned : Run → Run
+unfoldable pub turned : RunAt → RunAt
 turned run =
     cond (hasRoom (length (run .lines)) (run .course .put) (length (run .rooms .output)))
     (afterTaking run (sessionStep (run .session) (run .rooms) (take (run .course .to) (run .input)) (run .course .from) (run .course .last)))

@@ -6,7 +6,7 @@ ghost use Rattle.session.specs.Held.{nothingHeld};
 ghost use Rattle.session.specs.Lent.{roomsOf, sessionOf};
 ghost use Rattle.replay.specs.Run.{begun, runOf, unreadIn};
 ghost use Rattle.replay.specs.Inner.{AfterBoth, AfterServing};
-ghost use Rattle.replay.specs.Ran.{Reached};
+ghost use Rattle.replay.specs.Runs.{Reached};
 ghost use Rattle.replay.specs.declared.course.Going.the-variants.{Read};
 use crate::course::Course;
 use crate::course::Going;

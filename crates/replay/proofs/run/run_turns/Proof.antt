@@ -7,7 +7,7 @@ use denote.Ref.{now}
 use lib.ListN.{length}
 use Rattle.session.specs.Held.{nothingHeld}
 use Rattle.session.specs.Lent.{roomsOf, sessionOf}
-use Rattle.replay.specs.Run.{Run, begun, runOf}
+use Rattle.replay.specs.Run.{RunAt, begun, runOf}
 use Rattle.replay.specs.declared.course.Course.{Course}
 use Rattle.replay.proofs.Loop.{Running, running-start, running-next, serves-room}
 use Rattle.replay.proofs.run.run_turns.Statement.{statement}

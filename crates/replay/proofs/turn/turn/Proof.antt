@@ -9,7 +9,7 @@ use lib.ListN.{length}
 use Prim.Native.Nat.{_+_}
 use Rattle.session_listing.specs.Room.{roomOf}
 use Rattle.session.specs.Lent.{roomsOf}
-use Rattle.replay.specs.Run.{Run, runOf, courseOf}
+use Rattle.replay.specs.Run.{RunAt, runOf, courseOf}
 use Rattle.replay.specs.declared.course.Course.{Course}
 use Rattle.replay.specs.declared.course.Going.{Going}
 use Rattle.replay.proofs.Turns.{turned-full, turn-made}
@@ -17,7 +17,7 @@ use Rattle.replay.proofs.turn.turn.Statement.{statement}
 use Rattle.replay.proofs.turn.turn.Tie as tie
 
 -- the run before the turn
-abbrev runAt : tie.Start → Run
+abbrev runAt : tie.Start → RunAt
 runAt start =
     let given = start .args in
     runOf (given .course) (given .session) (roomsOf (now (given .store)) (now (given .table)) (now (given .normal)) (now (given .overlay)) (now (given .output))) (now (given .input)) (now (given .lines))

@@ -1,0 +1,62 @@
+-- Runs of the program: turns, and between them what is written and what is read.
+use Prim.Native.Nat.{ℕ, _+_}
+use mathlib.Core.Path.{_≡_}
+use mathlib.Core.List.{List, [], _∷_, _++_}
+use lib.ListN.{length, take}
+use Rattle.replay.specs.Run.{RunAt, runOf, unreadIn, textWaiting, turned, goingSo, writtenOut, takenIn, nothingRead}
+use Rattle.replay.specs.declared.course.Going.{Going}
+use Rattle.replay.specs.declared.course.Going.the-variants.{On, Full, Read, Over, Unread, Unwritten}
+use Rattle.replay.specs.declared.course.Course.{Course}
+
+-- how a run goes on after a turn
+abbrev pub asksAfter : RunAt → Going
+asksAfter run = turned run .course .going
+
+-- the text that waits after a turn
+abbrev pub waitsAfter : RunAt → List ℕ
+waitsAfter run = textWaiting (turned run .course) (turned run .lines)
+
+-- the bytes that are unread after a turn
+abbrev pub unreadAfter : RunAt → List ℕ
+unreadAfter run = unreadIn (turned run .course) (turned run .input)
+
+-- a run after a turn and then with this course and input
+abbrev pub servedSo : RunAt → Course → List ℕ → RunAt
+servedSo run course input = runOf course (turned run .session) (turned run .rooms) input (turned run .lines)
+
+-- a run after a turn and then with the text written out
+abbrev pub writtenAfter : RunAt → Going → Course
+writtenAfter run going = writtenOut (turned run .course) going
+
+-- from its start a run has read these pieces, one after another, and written this text, and is here
+pub data RunsTo (start : RunAt) : List (List ℕ) → List ℕ → RunAt → Type 0 where
+  -- nothing is done yet
+  starts : RunsTo start [] [] start
+  -- a turn goes on
+  turns : {pieces : List (List ℕ)} {text : List ℕ} {run : RunAt} → RunsTo start pieces text run → run .course .going ≡ On
+      → asksAfter run ≡ On → RunsTo start pieces text (servedSo run (turned run .course) (turned run .input))
+  -- a turn finds no room: the text that waits is written
+  writes : {pieces : List (List ℕ)} {text : List ℕ} {run : RunAt} → RunsTo start pieces text run → run .course .going ≡ On
+      → asksAfter run ≡ Full → RunsTo start pieces (text ++ waitsAfter run) (servedSo run (writtenAfter run On) (turned run .input))
+  -- a turn waits for bytes: the text is written, and a piece stands behind the unread bytes; where it is empty, the file ends there
+  reads : {pieces : List (List ℕ)} {text : List ℕ} {run : RunAt} → RunsTo start pieces text run → run .course .going ≡ On
+      → asksAfter run ≡ Read → {input : List ℕ} (piece : List ℕ) → take (length (unreadAfter run) + length piece) input ≡ unreadAfter run ++ piece
+      → RunsTo start (pieces ++ piece ∷ []) (text ++ waitsAfter run) (servedSo run (takenIn (writtenAfter run Read) (length (unreadAfter run)) (length piece)) input)
+  -- a turn waits for bytes: the text is written, and the read is interrupted
+  retries : {pieces : List (List ℕ)} {text : List ℕ} {run : RunAt} → RunsTo start pieces text run → run .course .going ≡ On
+      → asksAfter run ≡ Read → {input : List ℕ} → take (length (unreadAfter run)) input ≡ unreadAfter run
+      → RunsTo start pieces (text ++ waitsAfter run) (servedSo run (nothingRead (writtenAfter run Read) (length (unreadAfter run)) On) input)
+  -- a turn waits for bytes: the text is written, and the read fails: no more is read
+  fails : {pieces : List (List ℕ)} {text : List ℕ} {run : RunAt} → RunsTo start pieces text run → run .course .going ≡ On
+      → asksAfter run ≡ Read → {input : List ℕ} → take (length (unreadAfter run)) input ≡ unreadAfter run
+      → RunsTo start pieces (text ++ waitsAfter run) (servedSo run (nothingRead (writtenAfter run Read) (length (unreadAfter run)) Unread) input)
+  -- a turn is the last: the rest of the text is written
+  ends : {pieces : List (List ℕ)} {text : List ℕ} {run : RunAt} → RunsTo start pieces text run → run .course .going ≡ On
+      → asksAfter run ≡ Over → RunsTo start pieces (text ++ waitsAfter run) (servedSo run (writtenAfter run Over) (turned run .input))
+  -- the text that waits can't all be written: no more is
+  breaks : {pieces : List (List ℕ)} {text : List ℕ} {run : RunAt} → RunsTo start pieces text run → run .course .going ≡ On
+      → RunsTo start pieces text (servedSo run (goingSo (turned run .course) Unwritten) (turned run .input))
+
+-- there are such pieces and such a text
+abbrev pub Reached : RunAt → RunAt → Type 0
+Reached start run = (pieces : List (List ℕ)) × ((text : List ℕ) × RunsTo start pieces text run)
