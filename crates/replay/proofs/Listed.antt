@@ -91,7 +91,6 @@ module _ (run : RunAt) where
 
   -- a turn that waits: the file goes on, and what is held, unread and waiting is as before
   record Waits : Type 0 where
-    needs-more : stepped false (heldBy run) (unreadBy run) .1 ≡ needsMore
     not-last : run .course .last ≡ false
     same-held : heldBy (turned run) ≡ heldBy run
     same-unread : unreadAfter run ≡ unreadBy run
@@ -113,7 +112,6 @@ module _ (run : RunAt) where
           let stays = waiting-leaves (run .course .last) (heldBy run) (unreadBy run) e in
           let file-goes-on = goes-on (run .course .last) refl e in
           record {
-            needs-more = subst (λ (last : Bool). stepped last (heldBy run) (unreadBy run) .1 ≡ needsMore) file-goes-on e;
             not-last = file-goes-on;
             same-held = held ∙ ap (λ (all : Held × ℕ). all .0) stays;
             same-unread = unread ∙ ap (λ (all : Held × ℕ). drop (all .1) (unreadBy run)) stays;
@@ -174,7 +172,7 @@ module _ (rooms : Rooms) (input lines : List ℕ) (zeroed : Zeroed rooms) (right
       subst (λ (all : List (List ℕ)). Steps (heldBy start) [] all ((written ++ waitsAfter run) ++ rest)) (sym (append-assoc pieces (piece ∷ []) others))
       (subst (Steps (heldBy start) [] (pieces ++ piece ∷ others))
       (ap (λ (waiting : List ℕ). written ++ (waiting ++ rest)) (sym (waits .same-waits)) ∙ sym (append-assoc written (waitsAfter run) rest))
-      (runs-steps before was (piece ∷ others) (sym (waits .not-last)) (steps.lends (waits .needs-more) lent)))
+      (runs-steps before was (piece ∷ others) (sym (waits .not-last)) (steps.adds lent)))
   runs-steps (retries {pieces = pieces} {text = written} {run = run} before was is front) on others last {rest} onwards =
       let waits = waits-by run (turn-leaves run (runs-ready before)) is in
       let lent : Steps (heldBy run) (unreadBy run) others rest = rw (front, waits .same-held, waits .same-unread) at onwards in
@@ -192,8 +190,8 @@ module _ (rooms : Rooms) (input lines : List ℕ) (zeroed : Zeroed rooms) (right
       let ready = runs-ready before in
       let same = same-last run (turn-leaves run ready) in
       let steps-on = over-by run others (last ∙ same) (turn-leaves run ready) is in
-      cut-lists
-      (subst (λ (held : Held). Steps held [] (pieces ++ others) (written ++ waitsAfter run)) (first-held zeroed)
+      cut-lists (right .output-long)
+      (subst (λ (held : Held). Steps held [] (pieces ++ others) (written ++ waitsAfter run)) (first-held rooms zeroed)
       (subst (λ (later : List ℕ). Steps (heldBy start) [] (pieces ++ others) (written ++ later)) (steps-on .writes-so)
       (runs-steps before was others (last ∙ same) (steps-on .steps-so))))
   over-lists starts over others last = impossible (cc over)
