@@ -28,6 +28,7 @@ use Rattle.line.proofs.Entries.{run-in-table}
 use Rattle.line.proofs.Defined.{refuses-undefined}
 use Rattle.line_reads.specs.Reasons.{NoFrameServes, NoLineEntryServes, UndefinedAt, ComesTo, Reason, at-once, no-frame-entry, no-line-entry, undefined-entry}
 use Rattle.line_reads.proofs.Before.{never-colours, refused-unread, passes}
+use Rattle.line_reads.proofs.Served.{whole-frame, frame-whole, whole-line, line-whole}
 use Rattle.line_reads.proofs.Frames.{starting, identifying, start-on, starts-at, starts-found, NoFrame, no-frame}
 use Rattle.line_reads.proofs.Pixels.{entering, id-run, RefusedPixel, without-id, undefined, pixel-refused}
 use Rattle.line_reads.proofs.Having.{has-start, id-has, has-id, entry-has, has-entry}
@@ -41,7 +42,7 @@ module _ (setup : Setup) (lent : Lent) where
     for-frame : {refusal : Numbered} → NoFrame setup lent refusal → Reason setup lent refusal
     for-frame lacks =
         let none = table-unanswered (tableView (lent .table)) (setup .lengths .table) (setup .y) (lacks .none) in
-        no-frame-entry clear (record { on = lacks .on; none = none .none }) (none .named)
+        no-frame-entry clear (record { on = lacks .on; none = λ number at. none .none .short number (whole-frame setup lent at) }) (none .named)
 
     module _ {start : ℕ} (started : run (view lent) (starting setup lent) ≡ ok start) where
       -- a pixel that is refused is the reason for 8 or 9
@@ -51,7 +52,7 @@ module _ (setup : Setup) (lent : Lent) where
       for-pixel x comes stops (without-id lacks is place) =
           let none = id-unanswered (tableView (lent .table)) (setup .lengths .table) start x (lacks .none) in
           no-line-entry clear x comes
-          (record { start = start; starts = starts-at setup lent (lacks .on) started; none = none .none })
+          (record { start = start; starts = starts-at setup lent (lacks .on) started; none = λ number at. none .none .short number (whole-line setup lent start at) })
           (none .named)
       for-pixel x comes stops (undefined id found is place) =
           let says = refuses-undefined (view lent) x _ (sym (run-ok (view lent) (identifying setup lent start x) _ found) ∙ stops) in
@@ -106,7 +107,8 @@ module _ (setup : Setup) (lent : Lent) where
       (rw (start-on setup lent (none .on))
       (run-in-table lent (lineTableOf (setup .lengths .table) (setup .y))
       ∙ table-of-none (tableView (lent .table)) (setup .lengths .table) (setup .y)
-      (whole-misses (tableView (lent .table)) _ yend (frameEntries (setup .lengths .table)) (setup .y) (none .none))))
+      (whole-misses (tableView (lent .table)) _ yend (frameEntries (setup .lengths .table)) (setup .y)
+      (record { short = λ entry below. none .none entry (frame-whole setup lent (none .on) below) }))))
 
   -- a line that comes to a pixel is refused as the pixel is
   pixel-decides : {start : ℕ} → run (view lent) (starting setup lent) ≡ ok start → (x : ℕ) {refusal : Numbered} → ComesTo setup lent x
@@ -127,7 +129,8 @@ module _ (setup : Setup) (lent : Lent) where
       (run-refused (view lent) (identifying setup lent (none .start) x) _
       (id-run setup lent (none .start) (none .starts .found .whole .on) x
       ∙ id-of-none (tableView (lent .table)) (setup .lengths .table) (none .start) x
-      (whole-misses (tableView (lent .table)) _ (endOf (none .start)) (lineEntries (setup .lengths .table) (none .start)) x (none .none))))
+      (whole-misses (tableView (lent .table)) _ (endOf (none .start)) (lineEntries (setup .lengths .table) (none .start)) x
+      (record { short = λ entry below. none .none entry (line-whole setup lent (none .start) below) }))))
 
   -- a line that comes to a pixel whose window entry is undefined is refused by 9
   entry-refuses : (x : ℕ) → ComesTo setup lent x → UndefinedAt setup lent x → run (view lent) (entriesOf setup) ≡ refused (numbered (UndefinedEntry x))

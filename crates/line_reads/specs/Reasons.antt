@@ -1,5 +1,5 @@
 -- What a line is refused for, in the paper's order: 11, 10, 6 and 5 by what it goes by alone, 7, and then left to right 8 before 9.
-use Prim.Native.Nat.{ℕ, _<_}
+use Prim.Native.Nat.{ℕ, _+_, _*_, _<_}
 use mathlib.Core.Path.{_≡_}
 use mathlib.Core.Bool.{true}
 use Rattle.rules.specs.Faults.{Numbered, Clear, First}
@@ -8,26 +8,23 @@ use Rattle.refusals.specs.declared.Refusal.the-variants.{NoFrameEntry, NoLineEn
 use Rattle.line_colour.specs.Entry.{decoded}
 use Rattle.line_colour.specs.declared.entry.WindowEntry.{WindowEntry}
 use Rattle.line_colour.specs.declared.entry.Decoded.the-variants.{Undefined}
-use Rattle.line_windows.specs.Table.{yend, tableView}
-use Rattle.line_windows.specs.Search.{NoneServes}
-use Rattle.line_windows.specs.Frame.{frameEntries}
-use Rattle.line_windows.specs.Ids.{lineEntries, endOf}
+use Rattle.line_windows.specs.Table.{yend, xend, tableView}
 use Rattle.line_setup.specs.Faults.{lineFaults}
 use Rattle.line_setup.specs.declared.setup.Setup.{Setup}
 use Rattle.line.specs.Cells.{windowEntry, Lent, view}
-use Rattle.line_reads.specs.TableList.{StartsAt, HasId, HasEntry}
+use Rattle.line_reads.specs.TableList.{WholeFrameEntry, StartsAt, WholeLineEntry, HasId, HasEntry}
 
 module _ (setup : Setup) (lent : Lent) where
   -- 7: window IDs are on, and every frame entry ends before the line
   pub record NoFrameServes : Type 0 where
     pub on : setup .controls .ids ≡ true
-    pub none : NoneServes (tableView (lent .table)) yend (frameEntries (setup .lengths .table)) (setup .y)
+    pub none : (number : ℕ) → WholeFrameEntry setup lent number → tableView (lent .table) (yend number) < setup .y
 
   -- 8 at x: window IDs are on, the line has a table, and every entry of that ends before x
   pub record NoLineEntryServes (x : ℕ) : Type 0 where
     pub start : ℕ
     pub starts : StartsAt setup lent start
-    pub none : NoneServes (tableView (lent .table)) (endOf start) (lineEntries (setup .lengths .table) start) x
+    pub none : (number : ℕ) → WholeLineEntry setup lent start number → tableView (lent .table) (xend (start + 2 * number)) < x
 
   -- 9 at x: the pixel has an ID, which is 0 where window IDs are off, and the ID's window entry is undefined at the depth
   pub record UndefinedAt (x : ℕ) : Type 0 where
