@@ -20,7 +20,7 @@ use Rattle.line_pixels.specs.Cells.{Channel, inRed, inGreen, inBlue, channelIn,
 use Rattle.line_pixels.specs.Cursor.{within32, glyphPlace, inGlyph, onCrossHair, cursorAt}
 use Rattle.line_pixels.specs.Colour.{cursorSkipsGamma, throughGamma, shownColour, normalAt, plainAt, overlaid, overlayCounts, overlayAt, underCursor, cursorShown, colourOfPixel}
 use Rattle.line_pixels.specs.declared.Screen.{Screen}
-use Rattle.line_reads.specs.ColourList.{CursorShows, CursorTransparent, OverlayShows, OverlayTransparent, usedCell, BeforeGamma, of-overlay, of-sample, by-overlay, by-sample, ColourListed}
+use Rattle.line_reads.specs.ColourList.{CursorColourHere, CursorTransparent, OverlayByteHere, OverlayTransparent, usedCell, BeforeGamma, of-overlay, of-sample, by-overlay, by-sample, ColourListed}
 use Rattle.line_reads.proofs.Layers.{cursorHere, none-transparent, found-shows, count-switches, overlayHere, zero-transparent, found-overlay, normal-word}
 
 -- a place that is within the 32 is not behind the cursor's and at most 31 before it
@@ -127,7 +127,7 @@ module _ (memory : PixelCell → ℕ) where
             (read-value memory (normalAt (screen .depth) entry x) (throughGamma (entry .bypass)) here)
 
       -- what is read of an overlay colour is listed
-      overlaid-read : {byte : ℕ} → OverlayShows memory screen entry x byte → {cell : PixelCell}
+      overlaid-read : {byte : ℕ} → OverlayByteHere memory screen entry x byte → {cell : PixelCell}
           → Among cell (reads memory (overlaid entry byte)) → ColourListed memory screen entry x cell
       unfolding overlaid
       overlaid-read {byte} shows here =
@@ -152,7 +152,7 @@ module _ (memory : PixelCell → ℕ) where
     -- ---- the pixel
 
     -- what is read of a cursor colour is listed: the colour alone, for it skips gamma
-    shown-cursor-read : {number : ℕ} → CursorShows memory screen x number → {cell : PixelCell}
+    shown-cursor-read : {number : ℕ} → CursorColourHere memory screen x number → {cell : PixelCell}
         → Among cell (reads memory (cursorShown screen entry number)) → ColourListed memory screen entry x cell
     unfolding cursorShown
     shown-cursor-read {number} shows here =

@@ -16,7 +16,7 @@ use Rattle.line_setup.specs.declared.setup.Setup.{Setup}
 use Rattle.line.specs.Cells.{Lent, lentOf}
 use Rattle.line.specs.Line.{lineOf}
 use Rattle.line_reads.specs.TableList.{WindowListed}
-use Rattle.line_reads.specs.Unseen.{windowWord, SameFields, SameWindows, SameShown, SameRows}
+use Rattle.line_reads.specs.Unseen.{windowWord, SameFields, SameWindowEntries, SameShown, SameRows}
 use Rattle.line_reads.specs.Hidden.{otherStore, otherTable, otherNormal, otherOverlay, SameChosen, SameHalves, SameUncovered, SameOverlaid}
 use Rattle.line_reads.proofs.Active.{window-active, table-on}
 use Rattle.line_reads.proofs.Unseen.{seen-rests}
@@ -113,7 +113,7 @@ module _ (setup : Setup) (lent : Lent) where
 
   -- windows that are not on the line may be any: those of the IDs that active pixels have are enough
   pub windows-on-line : (store : List ℕ) → ((id : ℕ) → WindowListed setup lent (setup .controls .width) id → windowWord (lent .store) id ≡ windowWord store id)
-      → SameWindows setup lent store
+      → SameWindowEntries setup lent store
   windows-on-line store same = λ id listed. same id (window-active setup lent id listed)
 
   -- other entries that the line doesn't read, and other bits that are ignored, change nothing
@@ -132,7 +132,7 @@ module _ (setup : Setup) (lent : Lent) where
   -- ---- a line that is refused
 
   -- any rows, colours, gamma words and cursor words: only the table and the windows that the line meets count
-  pub refused-rests : {refusal : Numbered} → lineOf setup lent ≡ refused refusal → (store normal overlay : List ℕ) → SameWindows setup lent store
+  pub refused-rests : {refusal : Numbered} → lineOf setup lent ≡ refused refusal → (store normal overlay : List ℕ) → SameWindowEntries setup lent store
       → lineOf setup (lentOf store (lent .table) normal overlay) ≡ refused refusal
   refused-rests e store normal overlay same =
       sym (seen-rests setup lent (lentOf store (lent .table) normal overlay)

@@ -17,7 +17,7 @@ use Rattle.line_pixels.specs.Cursor.{cursorAt}
 use Rattle.line_pixels.specs.Colour.{shownColour, normalAt, overlayCounts, overlayAt}
 use Rattle.line_pixels.specs.declared.Screen.{Screen}
 use Rattle.line_pixels.proofs.CursorCases.{cursor-off, on-column, on-row, off-cross-hair, beside, beyond, in-glyph}
-use Rattle.line_reads.specs.ColourList.{GlyphListed, CursorShows, by-glyph, by-crosshair, CursorTransparent, BothSwitches, OverlayShows, OverlayTransparent, usedCell, wordShown}
+use Rattle.line_reads.specs.ColourList.{GlyphListed, CursorColourHere, by-glyph, by-crosshair, CursorTransparent, BothSwitches, OverlayByteHere, OverlayTransparent, usedCell, wordShown}
 
 module _ (memory : PixelCell → ℕ) (screen : Screen) (x : ℕ) where
   -- the cursor colour that the rule finds; 0 where it finds none
@@ -37,13 +37,13 @@ module _ (memory : PixelCell → ℕ) (screen : Screen) (x : ℕ) where
       ∙ ap (λ (c : ℕ). memory (glyph row c)) across
 
   -- a colour that the cursor shows is the one that the rule finds
-  pub shows-found : {number : ℕ} → CursorShows memory screen x number → cursorHere ≡ number
+  pub shows-found : {number : ℕ} → CursorColourHere memory screen x number → cursorHere ≡ number
   shows-found (by-glyph row column at is shows) = glyph-here at ∙ sym is
   shows-found (by-crosshair at is) =
       ⊎-elim (on-column memory screen x (at .on) (at .crosshair)) (on-row memory screen x (at .on) (at .crosshair)) (at .meets) ∙ sym is
 
   -- a colour that the cursor shows is not 0
-  pub shows-some : {number : ℕ} → CursorShows memory screen x number → number ≢ 0
+  pub shows-some : {number : ℕ} → CursorColourHere memory screen x number → number ≢ 0
   shows-some (by-glyph row column at is shows) = shows
   shows-some (by-crosshair at is) = λ none. omega arith
 
@@ -54,7 +54,7 @@ module _ (memory : PixelCell → ℕ) (screen : Screen) (x : ℕ) where
   module _ (found : cursorHere ≢ 0) where
     -- on the cross-hair
     by-lines : screen .cursor ≡ true → screen .crosshair ≡ true → (column row : Bool) → eqb x (screen .cx) ≡ column → eqb (screen .y) (screen .cy) ≡ row
-        → CursorShows memory screen x cursorHere
+        → CursorColourHere memory screen x cursorHere
     by-lines on cross true row e f =
         let is = eqb-true x (screen .cx) e in
         by-crosshair (record { on = on; crosshair = cross; meets = inl is }) (on-column memory screen x on cross is)
@@ -65,7 +65,7 @@ module _ (memory : PixelCell → ℕ) (screen : Screen) (x : ℕ) where
         absurd (found (off-cross-hair memory screen x on cross (eqb-false x (screen .cx) e) (eqb-false (screen .y) (screen .cy) f)))
 
     -- in the glyph
-    by-place : screen .cursor ≡ true → screen .crosshair ≡ false → CursorShows memory screen x cursorHere
+    by-place : screen .cursor ≡ true → screen .crosshair ≡ false → CursorColourHere memory screen x cursorHere
     by-place on plain =
         ⊎-elim (λ right. ⊎-elim (λ left. ⊎-elim (λ bottom. ⊎-elim (λ top. inside right left bottom top)
         (λ far. absurd (found (beyond memory screen x on plain (inr (omega arith))))) (le-or-lt (screen .cy) (screen .y + 31)))
@@ -74,7 +74,7 @@ module _ (memory : PixelCell → ℕ) (screen : Screen) (x : ℕ) where
         (λ far. absurd (found (beside memory screen x on plain (inl far)))) (le-or-lt x (screen .cx))
       where
         -- a pixel inside has its cell
-        inside : x ≤ screen .cx → screen .cx ≤ x + 31 → screen .y ≤ screen .cy → screen .cy ≤ screen .y + 31 → CursorShows memory screen x cursorHere
+        inside : x ≤ screen .cx → screen .cx ≤ x + 31 → screen .y ≤ screen .cy → screen .cy ≤ screen .y + 31 → CursorColourHere memory screen x cursorHere
         inside right left bottom top =
             by-glyph (screen .y + 31 - screen .cy) (x + 31 - screen .cx)
             (record {
@@ -88,11 +88,11 @@ module _ (memory : PixelCell → ℕ) (screen : Screen) (x : ℕ) where
             (in-glyph memory screen x on plain right left bottom top) found
 
     -- where the rule finds a colour, the cursor shows it
-    pub found-shows : CursorShows memory screen x cursorHere
+    pub found-shows : CursorColourHere memory screen x cursorHere
     found-shows = by (screen .cursor) (screen .crosshair) refl refl
       where
         -- a cursor that is off shows none, a cross-hair shows on its lines, and the glyph shows in its cells
-        by : (on cross : Bool) → screen .cursor ≡ on → screen .crosshair ≡ cross → CursorShows memory screen x cursorHere
+        by : (on cross : Bool) → screen .cursor ≡ on → screen .crosshair ≡ cross → CursorColourHere memory screen x cursorHere
         by false cross e f = absurd (found (cursor-off memory screen x e))
         by true true e f = by-lines e f (eqb x (screen .cx)) (eqb (screen .y) (screen .cy)) refl refl
         by true false e f = by-place e f
@@ -134,7 +134,7 @@ module _ (memory : PixelCell → ℕ) (screen : Screen) (entry : WindowEntry) (x
   byte-here both = rw (both .on, both .allowed) refl
 
   -- a byte that overlay shows is the one that the rule finds
-  pub overlay-found : {byte : ℕ} → OverlayShows memory screen entry x byte → overlayHere ≡ byte
+  pub overlay-found : {byte : ℕ} → OverlayByteHere memory screen entry x byte → overlayHere ≡ byte
   overlay-found at = byte-here (at .counts) ∙ sym (at .is)
 
   -- where the rule finds 0, overlay is transparent
@@ -152,12 +152,12 @@ module _ (memory : PixelCell → ℕ) (screen : Screen) (entry : WindowEntry) (x
       by false e = rw e refl
 
   -- where the rule finds a byte, overlay shows it
-  pub found-overlay : overlayHere ≢ 0 → OverlayShows memory screen entry x overlayHere
+  pub found-overlay : overlayHere ≢ 0 → OverlayByteHere memory screen entry x overlayHere
   unfolding overlayAt
   found-overlay found = by (overlayCounts screen entry) refl
     where
       -- overlay that doesn't count shows nothing
-      by : (counts : Bool) → overlayCounts screen entry ≡ counts → OverlayShows memory screen entry x overlayHere
+      by : (counts : Bool) → overlayCounts screen entry ≡ counts → OverlayByteHere memory screen entry x overlayHere
       by true e = let both = count-switches screen entry e in record { counts = both; is = byte-here both; shows = found }
       by false e = absurd (found (rw e refl))
 

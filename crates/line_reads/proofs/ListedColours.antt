@@ -17,7 +17,7 @@ use Rattle.line_pixels.specs.Cells.{Channel, inRed, inGreen, inBlue, channelIn,
 use Rattle.line_pixels.specs.Cursor.{inGlyph, cursorAt}
 use Rattle.line_pixels.specs.Colour.{throughGamma, shownColour, normalAt, plainAt, overlaid, overlayAt, underCursor, cursorShown, colourOfPixel}
 use Rattle.line_pixels.specs.declared.Screen.{Screen}
-use Rattle.line_reads.specs.ColourList.{GlyphListed, CursorShows, CursorTransparent, OverlayShows, OverlayTransparent, BeforeGamma, of-overlay, of-sample, OverlayListed, SampleListed, MapListed, by-overlay, by-sample, ColourListed}
+use Rattle.line_reads.specs.ColourList.{GlyphListed, CursorColourHere, CursorTransparent, OverlayByteHere, OverlayTransparent, BeforeGamma, of-overlay, of-sample, OverlayListed, SampleListed, MapListed, by-overlay, by-sample, ColourListed}
 use Rattle.line_reads.proofs.Layers.{shows-found, shows-some, transparent-none, transparent-zero, overlay-found, normal-word}
 
 -- the gamma cell that a channel of a colour indexes
@@ -49,7 +49,7 @@ module _ (memory : PixelCell → ℕ) where
     plain clear here = value-read memory (overlayAt screen entry x) _ (inr (rw (transparent-zero memory screen entry x clear) here))
 
     -- where overlay shows, what is read of its colour is read under the cursor
-    over : {byte : ℕ} → OverlayShows memory screen entry x byte → {cell : PixelCell} → Among cell (reads memory (overlaid entry byte))
+    over : {byte : ℕ} → OverlayByteHere memory screen entry x byte → {cell : PixelCell} → Among cell (reads memory (overlaid entry byte))
         → Among cell (reads memory (underCursor screen entry x))
     unfolding underCursor
     over shows here =
@@ -70,7 +70,7 @@ module _ (memory : PixelCell → ℕ) where
         (inl (rw (listed .on, listed .no-crosshair, left, right, top, bottom, up, across) (List·Memᴰ·head refl)))
 
     -- the cursor colour that shows is read
-    cursor-listed : {number : ℕ} → CursorShows memory screen x number → Among (cursorColour number) (reads memory (colourOfPixel screen entry x))
+    cursor-listed : {number : ℕ} → CursorColourHere memory screen x number → Among (cursorColour number) (reads memory (colourOfPixel screen entry x))
     unfolding colourOfPixel cursorShown
     cursor-listed shows =
         value-read memory (cursorAt screen x) _

@@ -32,13 +32,13 @@ module _ (screen : Screen) (x : ℕ) where
 
 module _ (memory : PixelCell → ℕ) (screen : Screen) (x : ℕ) where
   -- the cursor shows this colour: the number in the pixel's cell of the glyph, or 1 on the cross-hair; 0 is transparent
-  pub data CursorShows (number : ℕ) : Type 0 where
-    by-glyph : (row column : ℕ) → GlyphListed screen x row column → number ≡ memory (glyph row column) → number ≢ 0 → CursorShows number
-    by-crosshair : CrossHairHere screen x → number ≡ 1 → CursorShows number
+  pub data CursorColourHere (number : ℕ) : Type 0 where
+    by-glyph : (row column : ℕ) → GlyphListed screen x row column → number ≡ memory (glyph row column) → number ≢ 0 → CursorColourHere number
+    by-crosshair : CrossHairHere screen x → number ≡ 1 → CursorColourHere number
 
   -- the cursor is transparent: it shows no colour
   abbrev pub CursorTransparent : Type 0
-  CursorTransparent = (number : ℕ) → CursorShows number → ⊥
+  CursorTransparent = (number : ℕ) → CursorColourHere number → ⊥
 
 -- ---- overlay
 
@@ -49,7 +49,7 @@ pub record BothSwitches (screen : Screen) (entry : WindowEntry) : Type 0 where
 
 module _ (memory : PixelCell → ℕ) (screen : Screen) (entry : WindowEntry) (x : ℕ) where
   -- overlay shows this byte: it counts, and the byte is not 0
-  pub record OverlayShows (byte : ℕ) : Type 0 where
+  pub record OverlayByteHere (byte : ℕ) : Type 0 where
     pub counts : BothSwitches screen entry
     pub is : byte ≡ memory (overlayByte x)
     pub shows : byte ≢ 0
@@ -71,7 +71,7 @@ module _ (memory : PixelCell → ℕ) (screen : Screen) (entry : WindowEntry) (x
 
   -- the colour under the cursor before gamma: map entry 4,352 + byte where overlay shows, else the normal one
   pub data BeforeGamma (colour : ℕ) : Type 0 where
-    of-overlay : (byte : ℕ) → OverlayShows byte → colour ≡ memory (mapEntry (4352 + byte)) → BeforeGamma colour
+    of-overlay : (byte : ℕ) → OverlayByteHere byte → colour ≡ memory (mapEntry (4352 + byte)) → BeforeGamma colour
     of-sample : OverlayTransparent → colour ≡ wordShown (shownOf entry (memory usedCell)) → BeforeGamma colour
 
   -- ---- the list
@@ -88,7 +88,7 @@ module _ (memory : PixelCell → ℕ) (screen : Screen) (entry : WindowEntry) (x
 
   -- the map entry hit, by overlay or by the sample
   pub data MapListed (number : ℕ) : Type 0 where
-    by-overlay : (byte : ℕ) → OverlayShows byte → number ≡ 4352 + byte → MapListed number
+    by-overlay : (byte : ℕ) → OverlayByteHere byte → number ≡ 4352 + byte → MapListed number
     by-sample : OverlayTransparent → shownOf entry (memory usedCell) ≡ MapEntry number → MapListed number
 
   -- a channel's byte of the gamma word that this channel of the colour indexes, where the window entry doesn't bypass gamma
@@ -101,7 +101,7 @@ module _ (memory : PixelCell → ℕ) (screen : Screen) (entry : WindowEntry) (x
   -- the cells of one pixel's colour; those under the cursor where it is transparent
   abbrev pub ColourListed : PixelCell → Type 0
   ColourListed (glyph row column) = GlyphListed screen x row column
-  ColourListed (cursorColour number) = CursorShows memory screen x number
+  ColourListed (cursorColour number) = CursorColourHere memory screen x number
   ColourListed (overlayByte pixel) = CursorTransparent memory screen x × OverlayListed pixel
   ColourListed (sample depth pixel low count) = CursorTransparent memory screen x × SampleListed (sample depth pixel low count)
   ColourListed (mapEntry number) = CursorTransparent memory screen x × MapListed number

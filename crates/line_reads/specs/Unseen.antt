@@ -16,7 +16,7 @@ use Rattle.line.specs.Screen.{screenIn}
 use Rattle.line.specs.Cells.{ofTable, windowEntry, Lent}
 use Rattle.line.specs.Line.{lineOf}
 use Rattle.line_reads.specs.TableList.{HasEntry}
-use Rattle.line_reads.specs.ColourList.{GlyphListed, CursorShows, CursorTransparent, BothSwitches, OverlayTransparent, MapListed, GammaListed}
+use Rattle.line_reads.specs.ColourList.{GlyphListed, CursorColourHere, CursorTransparent, BothSwitches, OverlayTransparent, MapListed, GammaListed}
 use Rattle.line_reads.specs.Listed.{Listed}
 
 -- ---- cells of a store
@@ -30,8 +30,8 @@ abbrev pub cursorWord : List ℕ → ℕ → ℕ
 cursorWord store number = stored store (record { block = CursorColours; word = number - 1 })
 
 -- the 24 bits of a map entry
-abbrev pub mapWord : List ℕ → ℕ → ℕ
-mapWord store number = stored store (record { block = ColourMap; word = number })
+abbrev pub mapEntryWord : List ℕ → ℕ → ℕ
+mapEntryWord store number = stored store (record { block = ColourMap; word = number })
 
 -- one channel's byte of a gamma word
 abbrev pub gammaByte : List ℕ → Channel → ℕ → ℕ
@@ -58,19 +58,19 @@ module _ (setup : Setup) (lent : Lent) where
   SameFields table = (cell : TableCell) → Listed setup lent (ofTable cell) → tableView (lent .table) cell ≡ tableView table cell
 
   -- of another store, the window entries of the IDs that the line meets
-  abbrev pub SameWindows : List ℕ → Type 0
-  SameWindows store = (id : ℕ) → Listed setup lent (windowEntry id) → windowWord (lent .store) id ≡ windowWord store id
+  abbrev pub SameWindowEntries : List ℕ → Type 0
+  SameWindowEntries store = (id : ℕ) → Listed setup lent (windowEntry id) → windowWord (lent .store) id ≡ windowWord store id
 
   -- of another store, these window entries, and for each pixel its cell of the glyph, the cursor colour shown, the map entry hit and the byte of each gamma word hit; other cells, of the same words too, may be any
   pub record SameShown (store : List ℕ) : Type 0 where
-    pub windows : SameWindows store
+    pub windows : SameWindowEntries store
     pub glyphs :
         EachPixel (λ x entry. (row column : ℕ) → GlyphListed (screenIn setup) x row column → glyphCell (lent .store) row column ≡ glyphCell store row column)
     pub cursor-colours :
-        EachPixel (λ x entry. (number : ℕ) → CursorShows cellsHere (screenIn setup) x number → cursorWord (lent .store) number ≡ cursorWord store number)
+        EachPixel (λ x entry. (number : ℕ) → CursorColourHere cellsHere (screenIn setup) x number → cursorWord (lent .store) number ≡ cursorWord store number)
     pub map-entries :
         EachPixel (λ x entry.
-        CursorTransparent cellsHere (screenIn setup) x → (number : ℕ) → MapListed cellsHere (screenIn setup) entry x number → mapWord (lent .store) number ≡ mapWord store number)
+        CursorTransparent cellsHere (screenIn setup) x → (number : ℕ) → MapListed cellsHere (screenIn setup) entry x number → mapEntryWord (lent .store) number ≡ mapEntryWord store number)
     pub gamma-bytes :
         EachPixel (λ x entry.
         CursorTransparent cellsHere (screenIn setup) x → (channel : Channel) (number : ℕ) → GammaListed cellsHere (screenIn setup) entry x channel number
