@@ -16,6 +16,7 @@ use Rattle.chip_registers.specs.Access.{waitsIn, waits}
 use Rattle.chip_registers.specs.declared.Block.{Block}
 use Rattle.chip_registers.specs.declared.Block.the-variants.{Control, WindowEntries, ColourMap, GammaMap, CursorGlyph, CursorColours}
 use Rattle.chip_registers.specs.declared.Register.{Register}
+use Rattle.chip_registers.proofs.Map.{registerIn}
 use Rattle.chip_queue.specs.Queue.{full}
 use Rattle.chip_queue.specs.Good.{goodQueue}
 use Rattle.chip_queue.specs.declared.Waiting.{Waiting}
@@ -82,13 +83,9 @@ pub not-full : (queue : Queue) → full queue ≡ false → queue .waiting < 64
 unfolding full
 not-full queue h = leb-false 64 (queue .waiting) h
 
--- the register that is a word of a block
-abbrev word-of : Block → ℕ → Register
-word-of block word = record { block = block; word = word }
-
 module _ (chip : Chip) (whole : HasArrays (chip .0)) where
   -- a write leaves the arrays their sizes, block by block
-  in-whole : (block : Block) (word value : ℕ) → (waitsIn block && full (chip .0 .queue)) ≡ false → HasArrays (put chip (word-of block word) value .0)
+  in-whole : (block : Block) (word value : ℕ) → (waitsIn block && full (chip .0 .queue)) ≡ false → HasArrays (put chip (registerIn block word) value .0)
   in-whole Control word value free = (simp length-set (whole .0), whole .1)
   in-whole WindowEntries word value free = whole
   in-whole ColourMap word value free = (whole .0, sized-pushed (chip .0 .queue) _ (not-full (chip .0 .queue) free) (whole .1))
@@ -97,25 +94,25 @@ module _ (chip : Chip) (whole : HasArrays (chip .0)) where
   in-whole CursorColours word value free = whole
 
   -- a write keeps the rule, block by block
-  in-good : goodState (chip .0) ≡ true → (block : Block) (word value : ℕ) → word < count block → fits (word-of block word) value ≡ true
-      → (waitsIn block && full (chip .0 .queue)) ≡ false → goodState (put chip (word-of block word) value .0) ≡ true
+  in-good : goodState (chip .0) ≡ true → (block : Block) (word value : ℕ) → word < count block → fits (registerIn block word) value ≡ true
+      → (waitsIn block && full (chip .0 .queue)) ≡ false → goodState (put chip (registerIn block word) value .0) ≡ true
   in-good good Control word value here fine free =
       let said = good-says (chip .0) good in
-      says-good (put chip (word-of Control word) value .0)
+      says-good (put chip (registerIn Control word) value .0)
       (words-set 0 (chip .0 .control) word value (rw zero-add fine) (said .0))
       (said .1) (said .2) (said .3)
   in-good good WindowEntries word value here fine free = good
   in-good good ColourMap word value here fine free =
       let said = good-says (chip .0) good in
       let write : Waiting = record { word = word; value = value } in
-      says-good (put chip (word-of ColourMap word) value .0) (said .0) (said .1) (said .2)
+      says-good (put chip (registerIn ColourMap word) value .0) (said .0) (said .1) (said .2)
       (good-pushed (chip .0 .queue) (whole .1) (said .3) write (not-full (chip .0 .queue) free) (says-write write here fine))
   in-good good GammaMap word value here fine free = good
   in-good good CursorGlyph word value here fine free = good
   in-good good CursorColours word value here fine free = good
 
 -- a write leaves as many words in the store, block by block
-in-length : (chip : Chip) (block : Block) (word value : ℕ) → length (put chip (word-of block word) value .1) ≡ length (chip .1)
+in-length : (chip : Chip) (block : Block) (word value : ℕ) → length (put chip (registerIn block word) value .1) ≡ length (chip .1)
 in-length chip Control word value = refl
 in-length chip WindowEntries word value = simp length-set
 in-length chip ColourMap word value = refl
