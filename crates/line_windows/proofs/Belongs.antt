@@ -10,8 +10,11 @@ use Rattle.refusals.specs.declared.Refusal.the-variants.{NoFrameEntry, NoLineEn
 use Rattle.line_windows.specs.Table.{TableCell, yend, lineTable, xend, windowId}
 use Rattle.line_windows.specs.Frame.{frameEntries, lineTableOf}
 use Rattle.line_windows.specs.Ids.{lineEntries, endOf, idOf}
+use Rattle.line_windows.specs.Carried.{foundFrom}
+use Rattle.line_windows.specs.declared.ids.FoundId.{FoundId}
 use Rattle.line_windows.proofs.Whole.{whole-finds, whole-misses}
 use Rattle.line_windows.proofs.Answers.{table-of-entry, table-of-none, table-answered, table-unanswered, id-of-entry, id-of-none, id-answered, id-unanswered}
+use Rattle.line_windows.proofs.Pixels.{passed-start, found-serves, refused-serves}
 
 -- ---- which entries there are
 
@@ -148,3 +151,14 @@ module _ (memory : TableCell → ℕ) (tableBytes start x : ℕ) where
       id-of-none memory tableBytes start x
       (whole-misses memory (numbered (NoLineEntry x)) (endOf start) (lineEntries tableBytes start) x
       (record { short = λ number before. none .ends number (line-counted-belongs tableBytes start number before) }))
+
+  -- a look-up from the first entry on finds that ID
+  pub look-up-found-by : {found : FoundId} → run memory (foundFrom tableBytes start 0 x) ≡ ok found → IdBy memory tableBytes start x (found .id)
+  look-up-found-by e =
+      let serves = found-serves memory tableBytes start 0 x (passed-start memory start x) e in
+      id-found-by (serves .ids x (omega arith) (serves .reaches))
+
+  -- a look-up from the first entry on refuses as the pixel is refused
+  pub look-up-refused-by : {refusal : Numbered} → run memory (foundFrom tableBytes start 0 x) ≡ refused refusal
+      → (refusal ≡ record { number = 8; values = x ∷ [] }) × NoId memory tableBytes start x
+  look-up-refused-by e = id-refused-by (refused-serves memory tableBytes start 0 x (passed-start memory start x) e)
