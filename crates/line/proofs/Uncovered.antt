@@ -56,8 +56,7 @@ uncovered controls =
       cy = 0;
     }
 
--- two lines that are checked alike: the states keep their rule alike, the control words differ in the fields of the cursor alone, the lines' numbers and all lengths are the same,
--- and so are the table and the 13 bits of each window entry. Cursor, glyph, maps, overlay row and normal row may hold anything
+-- two lines are checked alike: states, control words but for the cursor's fields, numbers, lengths, table and the 13 bits of each window entry are the same to a check; cursor, glyph, maps and rows may hold anything
 pub record CheckedAlike (request other : Request) (lent given : Lent) : Type 0 where
   pub good : goodState (request .state) ≡ goodState (other .state)
   pub controls : uncovered (controlsOf (request .state .control)) ≡ uncovered (controlsOf (other .state .control))

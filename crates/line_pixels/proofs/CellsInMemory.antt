@@ -1,5 +1,5 @@
 -- What cells hold in lent memory, by the number of a word in the store or of a byte in a row. Assumes nothing.
-use Prim.Native.Nat.{ℕ, zero, suc, _+_, _-_, _*_, _/_, _%_, _^_, _≤_, _<_}
+use Prim.Native.Nat.{ℕ, zero, suc, _+_, _-_, _*_, _/_, _%_, _^_, _≤_}
 use mathlib.Core.Path.{_≡_, refl, sym, ap, _∙_}
 use mathlib.Core.List.{List}
 use native.Mathlib.Nat.{pow-suc}
@@ -20,9 +20,9 @@ four-pow (suc n) = rw (pow-suc 4 n, four-pow n) (sym (ap (λ (k : ℕ). 2 ^ k) (
     two-more n = omega arith
 
 -- a row of the glyph is two words of the store, from word 4,896 on; the leftmost of the 16 cells of a word is its top digit in fours
-pub glyph-in-store : (store normal overlay : List ℕ) (row column : ℕ) → column < 32
+pub glyph-in-store : (store normal overlay : List ℕ) (row column : ℕ)
     → pixelView store normal overlay (glyph row column) ≡ getD store (4896 + (2 * row + column / 16)) 0 / 4 ^ (15 - column % 16) % 4
-glyph-in-store store normal overlay row column c =
+glyph-in-store store normal overlay row column =
     let word = getD store (4896 + (2 * row + column / 16)) 0 in
     let low : 30 - 2 * (column % 16) ≡ 2 * (15 - column % 16) = omega arith in
     let fits : 30 - 2 * (column % 16) + 2 ≤ 32 = omega arith in

@@ -13,8 +13,7 @@ use Rattle.line_pixels.specs.Cursor.{cursorAt}
 use Rattle.line_pixels.specs.declared.Screen.{Screen}
 use Rattle.line_pixels.proofs.CursorCases.{cursor-off, on-column, on-row, off-cross-hair, beside, beyond, in-glyph}
 
--- the cursor shows this colour at pixel x of the line, 0 for none: nothing where it is off; as cross-hair colour 1 in its column and its row; as glyph
--- the number in the cell of column x + 31 − cx and row y + 31 − cy, if both are 0 to 31
+-- the cursor shows this colour at pixel x, 0 for none: off none, as cross-hair colour 1 in its column and row, as glyph the number in the cell of column x + 31 − cx and row y + 31 − cy, if both are 0 to 31
 pub data CursorShows (memory : PixelCell → ℕ) (screen : Screen) (x number : ℕ) : Type 0 where
   switched-off : screen .cursor ≡ false → number ≡ 0 → CursorShows memory screen x number
   on-cross-hair : screen .cursor ≡ true → screen .crosshair ≡ true → (x ≡ screen .cx) ⊎ (screen .y ≡ screen .cy) → number ≡ 1

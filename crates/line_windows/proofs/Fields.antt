@@ -26,6 +26,6 @@ module _ (table : List ℕ) (byte : (at : ℕ) → getD table at 0 < 256) where
   pub xend-in-bytes : (at : ℕ) → tableView table (xend at) ≡ getD table at 0 * 8 + getD table (at + 1) 0 / 32
   xend-in-bytes at = ap (λ (word : ℕ). field word 15 5) (big-endian-2 table at) ∙ (omega (arith, byte at, byte (at + 1)))
 
-  -- its ID is in the low five bits of its second byte
-  pub id-in-bytes : (at : ℕ) → tableView table (windowId at) ≡ getD table (at + 1) 0 % 32
-  id-in-bytes at = ap (λ (word : ℕ). field word 4 0) (big-endian-2 table at) ∙ (omega (arith, byte at, byte (at + 1)))
+-- the ID of a line entry is in the low five bits of its second byte
+pub id-in-bytes : (table : List ℕ) (at : ℕ) → tableView table (windowId at) ≡ getD table (at + 1) 0 % 32
+id-in-bytes table at = ap (λ (word : ℕ). field word 4 0) (big-endian-2 table at) ∙ (omega arith)
