@@ -109,11 +109,7 @@ module _ (memory : PixelCell → ℕ) (screen : Screen) (x : ℕ) where
 -- ---- overlay
 
 module _ (screen : Screen) (entry : WindowEntry) where
-  -- where both switches are on, the rule looks at overlay
-  pub switches-count : BothSwitches screen entry → overlayCounts screen entry ≡ true
-  switches-count both = rw (both .on, both .allowed) refl
-
-  -- where it does, both are on
+  -- where the rule looks at overlay, both switches are on
   pub count-switches : overlayCounts screen entry ≡ true → BothSwitches screen entry
   count-switches = by (screen .overlay) (entry .overlay) refl refl
     where

@@ -17,7 +17,7 @@ module _ (setup : Setup) (lent : Lent) where
 
   -- ---- which entry serves
 
-  -- a frame entry has 4 bytes; of at most 2,048 whole ones it is one, where window IDs are on
+  -- a frame entry of the table: 4 bytes, whole ones alone and 2,048 at most; where window IDs are off there is none
   pub record WholeFrameEntry (number : ℕ) : Type 0 where
     pub on : setup .controls .ids ≡ true
     pub at-most : number < 2048
@@ -35,7 +35,7 @@ module _ (setup : Setup) (lent : Lent) where
     pub found : FrameEntry frame
     pub is : start ≡ tableFields (lineTable frame)
 
-  -- a line entry has 2 bytes; it is a whole one of the line table that starts at a byte, which ends with its 512-byte block or the table
+  -- an entry of the line table that starts at a byte: 2 bytes, whole ones alone, before its 512-byte block or the table ends
   pub record WholeLineEntry (start number : ℕ) : Type 0 where
     pub in-block : start + 2 * number + 2 ≤ 512 * (start / 512) + 512
     pub in-table : start + 2 * number + 2 ≤ setup .lengths .table
