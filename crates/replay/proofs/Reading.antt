@@ -5,6 +5,7 @@ use mathlib.Core.Bool.{true, false}
 use mathlib.Core.List.{List, _++_}
 use mathlib.Core.Logic.{_⊎_, inl, inr}
 use native.Mathlib.Omega.{arith}
+use borrow.Author.Tests.{ne-eqb}
 use lib.ListN.{length, take, drop, length-drop}
 use lib.Seq.{slice, length-slice, length-take-le, take-at, take-add}
 use Rattle.replay.specs.Run.{unreadIn, toFront, takenIn, nothingRead}
@@ -49,4 +50,4 @@ nothing-ends course kept = refl
 
 -- a read that puts something is not
 pub something-goes-on : (course : Course) (kept count : ℕ) → takenIn course kept (suc count) .last ≡ false
-something-goes-on course kept count = refl
+something-goes-on course kept count = ne-eqb (suc count) 0 (λ same. absurd (omega arith))
