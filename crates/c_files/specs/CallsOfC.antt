@@ -15,7 +15,7 @@ abbrev pub SaysLast : ℕ → List (List ℕ) → Type 0
 SaysLast last [] = last ≡ 0 → ⊥
 SaysLast last (piece ∷ pieces) = last ≡ 0
 
--- one call: it answers so, leaves these rooms, and its text is as many bytes of the lent ones as it says, from the front
+-- one call: it answers so, leaves these rooms, and its text is as many bytes of the lent ones as it says, from the front (CHIP 9.8)
 pub record CallOfC (session : Session) (rooms : Rooms) (bytes : List ℕ) (place : ℕ) (pieces : List (List ℕ)) (answer : SteppedNumbers) (left : Rooms) (text : List ℕ) : Type 0 where
   pub lent : List ℕ
   pub after : List ℕ
@@ -24,7 +24,7 @@ pub record CallOfC (session : Session) (rooms : Rooms) (bytes : List ℕ) (place
   pub is : stepInNumbers session rooms lent bytes place (not (eqb last 0)) ≡ (answer, (left, after))
   pub text-is : take (answer .text) after ≡ text
 
--- calls one after another, each with the session, the rooms and the place that the one before it left: from the bytes that are lent and the pieces to come, their texts joined
+-- calls one after another, each with the session, the rooms and the place that the one before it left: from the bytes that are lent and the pieces to come, their texts joined (CHIP 9.8)
 pub data CallsOfC : Session → Rooms → List ℕ → ℕ → List (List ℕ) → List ℕ → Type 0 where
   -- before whatever call, bytes are lent in which what is unread stands at a place, and the next piece behind it
   adds : {session : Session} {rooms : Rooms} {bytes more piece : List ℕ} {place from : ℕ} {pieces : List (List ℕ)} {rest : List ℕ}

@@ -47,7 +47,7 @@ entryRefusal (entry.saysAt x y) = nothing
 entryRefusal (entry.saysLine y width) = nothing
 entryRefusal (entry.saysRefused refusal) = refusedBy refusal
 
--- 0 where the call is refused, 1 for an entry, 2 for the end, 3 for a wait, 4 for a fault of the file
+-- 0 where the call is refused, 1 for an entry, 2 for the end, 3 for a wait, 4 for a fault of the file (CHIP 9.7)
 abbrev pub statusInNumbers : Outcome Numbered Status → StatusNumbers
 statusInNumbers (refused refusal) = record { status = 0; refusal = refusedBy refusal }
 statusInNumbers (ok (listed entry)) = record { status = 1; refusal = entryRefusal entry }
@@ -55,7 +55,7 @@ statusInNumbers (ok ended) = record { status = 2; refusal = nothing }
 statusInNumbers (ok needsMore) = record { status = 3; refusal = nothing }
 statusInNumbers (ok (stopped refusal)) = record { status = 4; refusal = refusedBy refusal }
 
--- the text: that of what it comes to, none where the call is refused
+-- the text: that of what it comes to, none where the call is refused (CHIP 9.7)
 abbrev pub textBy : Outcome Numbered Status → List ℕ → List ℕ
 textBy (ok status) output = textOf output status
 textBy (refused refusal) output = []
@@ -77,6 +77,6 @@ stepLeft all lent =
     let text = textBy (all .1) (all .0 .1 .output) in
     (stepAnswer (all .0 .0) (statusInNumbers (all .1)) (length text), (all .0 .1, laid lent text))
 
--- what a call answers and leaves
+-- what a call answers and leaves (CHIP 9.7)
 unfoldable pub stepInNumbers : Session → Rooms → List ℕ → List ℕ → ℕ → Bool → SteppedNumbers × (Rooms × List ℕ)
 stepInNumbers session rooms lent bytes place last = stepLeft (called session rooms lent bytes place last) lent

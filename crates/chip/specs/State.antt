@@ -18,7 +18,7 @@ use Rattle.chip.specs.declared.state.State.{State}
 abbrev pub HasArrays : State → Type 0
 HasArrays state = (length (state .control) ≡ 9) × HasSlots (state .queue)
 
--- all zero, its queue empty
+-- all zero, its queue empty (CHIP 2.7)
 abbrev pub fresh : State
 fresh = record { control = replicate 9 0; at = record { x = 0; y = 0 }; queue = emptyQueue }
 
@@ -26,7 +26,7 @@ fresh = record { control = replicate 9 0; at = record { x = 0; y = 0 }; queue = 
 abbrev pub controlWord : State → ℕ → ℕ
 controlWord state word = getD (state .control) word 0
 
--- control words 2 to 5: horizontal sync, vertical sync, horizontal blank, vertical blank
+-- control words 2 to 5: horizontal sync, vertical sync, horizontal blank, vertical blank (CHIP 2.3)
 abbrev pub windowsOf : State → Windows
 windowsOf state =
     record {
@@ -36,7 +36,7 @@ windowsOf state =
       vblank = controlWord state 5;
     }
 
--- a state with one control word changed
+-- a state with one control word changed (CHIP 2.4)
 abbrev pub withWord : State → ℕ → ℕ → State
 withWord state word value = record { control = set (state .control) word value; at = state .at; queue = state .queue }
 
@@ -48,11 +48,11 @@ withPosition state at = record { control = state .control; at = at; queue = stat
 abbrev pub withQueue : State → Queue → State
 withQueue state queue = record { control = state .control; at = state .at; queue = queue }
 
--- none of the control words, of which the first has this number, has stray bits
+-- none of the control words, of which the first has this number, has stray bits (CHIP 8.4)
 abbrev pub goodWords : ℕ → List ℕ → Bool
 goodWords word [] = true
 goodWords word (value ∷ others) = fits (record { block = Control; word = word }) value && goodWords (suc word) others
 
--- the rule of number 11: no stray control bits, a position of at most 4,095, at most 64 waiting, each to a colour entry and of at most 24 bits
+-- the rule of number 11: no stray control bits, a position of at most 4,095, at most 64 waiting, each to a colour entry and of at most 24 bits (CHIP 2.4, 8.4)
 unfoldable pub goodState : State → Bool
 goodState state = goodWords 0 (state .control) && leb (state .at .x) 4095 && leb (state .at .y) 4095 && goodQueue (state .queue)

@@ -21,7 +21,7 @@ use Rattle.chip_queue.specs.Waiting.{writeTo}
 use Rattle.chip.specs.State.{withWord, withQueue}
 use Rattle.chip.specs.Call.{Chip, callFaults}
 
--- why a write is refused, by what its address names and whether the queue is full: 1 where it names nothing, else 2, 3, 4, all at the address
+-- why a write is refused, by what its address names and whether the queue is full: 1 where it names nothing, else 2, 3, 4, all at the address (CHIP 3.6, 8.1, 8.2)
 abbrev pub registerFaults : Bool → Named → ℕ → ℕ → List Fault
 registerFaults noRoom Nothing place value = fault (NoRegister place) true ∷ []
 registerFaults noRoom (Is register) place value =
@@ -30,30 +30,30 @@ registerFaults noRoom (Is register) place value =
     ∷ fault (QueueFull place) (waits register && noRoom)
     ∷ []
 
--- why a write to an address is refused, by whether the queue is full
+-- why a write to an address is refused, by whether the queue is full (CHIP 8.1)
 abbrev pub addressFaults : Bool → ℕ → ℕ → List Fault
 addressFaults noRoom address value = registerFaults noRoom (named address) (addressPlace address) value
 
--- the faults of a write, in order: 11, 5, 1, 2, 3, 4
+-- the faults of a write, in order: 11, 5, 1, 2, 3, 4 (CHIP 2.1, 8.2)
 abbrev pub writeFaults : Chip → ℕ → ℕ → List Fault
 writeFaults chip address value = callFaults (chip .0) (length (chip .1)) ++ addressFaults (full (chip .0 .queue)) address value
 
--- a value at its register's place: a word of the store, or a control word, which is the state's
+-- a value at its register's place: a word of the store, or a control word, which is the state's (CHIP 8.1)
 abbrev pub putAt : Chip → Register → ℕ → StorePlace → Chip
 putAt chip register value (At index) = (chip .0, set (chip .1) index value)
 putAt chip register value Nowhere = (withWord (chip .0) (register .word) value, chip .1)
 
--- a write joins the queue where it waits, else its value goes to its place
+-- a write joins the queue where it waits, else its value goes to its place (CHIP 2.8, 3.6, 8.1)
 abbrev pub put : Chip → Register → ℕ → Chip
 put chip register value =
     cond (waits register) (withQueue (chip .0) (pushed (chip .0 .queue) (writeTo register value)), chip .1)
     (putAt chip register value (storePlace register))
 
--- a write to what an address names: where it names nothing, all stays as it was
+-- a write to what an address names: where it names nothing, all stays as it was (CHIP 2.8)
 abbrev pub putNamed : Chip → Named → ℕ → Chip
 putNamed chip Nothing value = chip
 putNamed chip (Is register) value = put chip register value
 
--- what a write leaves and answers
+-- what a write leaves and answers (CHIP 2.8, 8.2)
 unfoldable pub written : Chip → ℕ → ℕ → Chip × Outcome Numbered (Unit {0})
 written chip address value = unless (writeFaults chip address value) chip (putNamed chip (named address) value, tt)

@@ -24,7 +24,7 @@ pub data Call : Type 0 where
   -- a line, which changes neither state nor store
   line : Call
 
--- what a call leaves, refused or not
+-- what a call leaves, refused or not (CHIP 3.8)
 unfoldable pub leftBy : Chip → Call → Chip
 leftBy chip (write address value) = written chip address value .0
 leftBy chip (read address) = readBack chip address .0
@@ -48,7 +48,7 @@ RefusedBy chip dot refusal = dotted chip .1 ≡ refused refusal
 RefusedBy chip (dots count) refusal = ran chip count .1 ≡ refused refusal
 RefusedBy chip line refusal = ⊥
 
--- what some calls leave
+-- what some calls leave (CHIP 3.8)
 unfoldable pub end : Chip → List Call → Chip
 end chip [] = chip
 end chip (call ∷ calls) = end (leftBy chip call) calls

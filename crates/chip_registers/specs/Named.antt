@@ -8,23 +8,23 @@ use Rattle.chip_registers.specs.declared.Block.{Block}
 use Rattle.chip_registers.specs.declared.Named.{Named}
 use Rattle.chip_registers.specs.declared.Named.the-variants.{Is, Nothing}
 
--- the place that an address is: bits 31..24 are ignored, and 0 in a place
+-- the place that an address is: bits 31..24 are ignored, and 0 in a place (CHIP 2.1)
 abbrev pub addressPlace : ℕ → ℕ
 addressPlace address = address % 2 ^ 24
 
--- which word of a block stands at a place
+-- which word of a block stands at a place (CHIP 2.2)
 abbrev pub wordAt : Block → ℕ → ℕ
 wordAt block place = (place - start block) / 4
 
--- the place is that of a word of the block
+-- the place is that of a word of the block (CHIP 2.2)
 unfoldable pub isWordOf : Block → ℕ → Bool
 isWordOf block place = leb (start block) place && ltb (wordAt block place) (count block)
 
--- the register of some blocks that stands at a place
+-- the register of some blocks that stands at a place (CHIP 2.2)
 abbrev pub among : List Block → ℕ → Named
 among [] place = Nothing
 among (block ∷ others) place = cond (isWordOf block place) (Is (record { block = block; word = wordAt block place })) (among others place)
 
--- what an address names: a register stands at a multiple of 4
+-- what an address names: a register stands at a multiple of 4 (CHIP 2.1, 2.2, 8.1)
 unfoldable pub named : ℕ → Named
 named address = cond (eqb (addressPlace address % 4) 0) (among blocks (addressPlace address)) Nothing

@@ -8,15 +8,15 @@ use Rattle.chip_timing.specs.declared.Position.{Position}
 use Rattle.chip_timing.specs.declared.Windows.{Windows}
 use Rattle.chip_timing.specs.declared.Signals.{Signals}
 
--- whether p is in the window of a control word, which has on in 11..0 and off in 27..16
+-- whether p is in the window of a control word, which has on in 11..0 and off in 27..16 (CHIP 2.3, 3.1)
 unfoldable pub windowHolds : ℕ → ℕ → Bool
 windowHolds word p = inWindow (field word 11 0) (field word 27 16) p
 
--- the window of a control word is empty: on and off are equal
+-- the window of a control word is empty: on and off are equal (CHIP 3.1)
 unfoldable pub isEmpty : ℕ → Bool
 isEmpty word = eqb (field word 11 0) (field word 27 16)
 
--- horizontal windows go by x and vertical ones by y; blank is either
+-- horizontal windows go by x and vertical ones by y; blank is either (CHIP 3.1, 3.2, 3.3)
 unfoldable pub signalsAt : Windows → Position → Signals
 signalsAt windows at =
     record {

@@ -1,6 +1,7 @@
 -- The seven slips that are easily made (CHIP 12.1 to 12.7): for each a law that a chip which makes the slip breaks. Assumes nothing.
 use Prim.Native.Nat.{ℕ, suc, _+_, _*_, _-_, _/_, _%_, _^_, _<_, _≤_}
 use native.Mathlib.Nat.{le-refl}
+use native.Mathlib.Omega.{arith}
 use mathlib.Core.Path.{_≡_, refl, ap, _∙_}
 use mathlib.Core.Bool.{false}
 use mathlib.Core.List.{List}
@@ -45,7 +46,7 @@ module _ (request : Request) (lent : Lent) (output : List ℕ) where
   cursor-as-stored is-drawn x number active shows =
       let colour = drawn-colour request lent output is-drawn x active in
       colour .is
-      ∙ cursor-colour-shown (pixelView (lent .store) (lent .normal) (lent .overlay)) (screenIn (setupOf request lent (length output))) (colour .entry) x shows (λ none. ?)
+      ∙ cursor-colour-shown (pixelView (lent .store) (lent .normal) (lent .overlay)) (screenIn (setupOf request lent (length output))) (colour .entry) x shows (λ none. omega (arith, none))
       ∙ cursor-colour-in-store (lent .store) (lent .normal) (lent .overlay) number
 
   -- 12.6 no half line: a line that is refused leaves every word of the output as it was

@@ -23,7 +23,7 @@ pub data Cell : Type 0 where
   windowEntry : ℕ → Cell
   ofColour : PixelCell → Cell
 
--- what the cells hold; of a window entry all 13 bits
+-- what the cells hold; of a window entry all 13 bits (CHIP 2.6)
 abbrev pub view : Lent → Cell → ℕ
 view lent (ofTable cell) = tableView (lent .table) cell
 view lent (windowEntry id) = stored (lent .store) (record { block = WindowEntries; word = id })

@@ -28,17 +28,17 @@ setupOf request lent output =
       };
     }
 
--- that the line is drawn, or its refusal; the colours go to the output
+-- that the line is drawn, or its refusal; the colours go to the output (CHIP 8.1)
 abbrev pub withoutColours : Outcome Numbered (List ℕ) → Outcome Numbered (Unit {0})
 withoutColours (ok colours) = ok tt
 withoutColours (refused refusal) = refused refusal
 
--- the output after it: the colours of the active width with the words past it as they were, or all as it was
+-- the output after it: the colours of the active width with the words past it as they were, or all as it was (CHIP 6.8, 8.1)
 abbrev pub outputAfter : ℕ → List ℕ → Outcome Numbered (List ℕ) → List ℕ
 outputAfter width output (ok colours) = colours ++ drop width output
 outputAfter width output (refused refusal) = output
 
--- the state, the output and the answer; the state is handed back as it was
+-- the state, the output and the answer; the state is handed back as it was (CHIP 2.4, 6.1, 7.3)
 unfoldable pub drawn : Request → Lent → List ℕ → (State × List ℕ) × Outcome Numbered (Unit {0})
 drawn request lent output =
     let setup = setupOf request lent (length output) in

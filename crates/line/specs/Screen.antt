@@ -2,7 +2,7 @@
 use Rattle.line_pixels.specs.declared.Screen.{Screen}
 use Rattle.line_setup.specs.declared.setup.Setup.{Setup}
 
--- the switches, the depth, where the cursor is, and the line's number
+-- the switches, the depth, where the cursor is, and the line's number (CHIP 6.7)
 abbrev pub screenIn : Setup → Screen
 screenIn setup =
     record {

@@ -5,7 +5,7 @@ use lib.ListN.{getD}
 use Rattle.words.specs.Channels.{channelsOf}
 use Rattle.words.specs.declared.Rgb.{Rgb}
 
--- a colour through the gamma words
+-- a colour through the gamma words (CHIP 6.3)
 abbrev pub corrected : List ℕ → Rgb → Rgb
 corrected gamma colour =
     record {

@@ -13,13 +13,13 @@ use Rattle.chip_registers.specs.declared.Block.the-variants.{ColourMap, GammaMa
 pub data Channel : Type 0 where
   inRed inGreen inBlue : Channel
 
--- what a colour has in a channel
+-- what a colour has in a channel (CHIP 5.8)
 abbrev pub channelIn : Channel → Rgb → ℕ
 channelIn inRed colour = colour .red
 channelIn inGreen colour = colour .green
 channelIn inBlue colour = colour .blue
 
--- a cell that a colour may rest on
+-- a cell that a colour may rest on (CHIP 7.1)
 pub data PixelCell : Type 0 where
   -- two bits of the cursor's glyph, by row and column
   glyph : ℕ → ℕ → PixelCell
@@ -34,15 +34,15 @@ pub data PixelCell : Type 0 where
   -- one channel of a word of the gamma map
   gamma : Channel → ℕ → PixelCell
 
--- a row of the glyph has two words of 16 cells each, from the top bits down
+-- a row of the glyph has two words of 16 cells each, from the top bits down (CHIP 6.5)
 abbrev pub glyphCell : List ℕ → ℕ → ℕ → ℕ
 glyphCell store row column = bits (stored store (record { block = CursorGlyph; word = 2 * row + column / 16 })) (30 - 2 * (column % 16)) 2
 
--- a pixel of the normal row, all bits of it
+-- a pixel of the normal row, all bits of it (CHIP 1.4)
 abbrev pub pixelWord : ℕ → List ℕ → ℕ → ℕ
 pixelWord depth normal x = bigEndian normal (x * (depth / 8)) (depth / 8)
 
--- what the cells hold in a lent store, normal row and overlay row
+-- what the cells hold in a lent store, normal row and overlay row (CHIP 2.6, 6.5)
 abbrev pub pixelView : List ℕ → List ℕ → List ℕ → PixelCell → ℕ
 pixelView store normal overlay (glyph row column) = glyphCell store row column
 pixelView store normal overlay (cursorColour number) = stored store (record { block = CursorColours; word = number - 1 })

@@ -21,26 +21,26 @@ use Rattle.line.specs.declared.request.Request.{Request}
 abbrev pub controlsIn : Request → Controls
 controlsIn request = controlsOf (request .state .control)
 
--- the same is asked for: the line's number, the control words, and whether the state keeps its rule; position and queue may be others
+-- the same is asked for: the line's number, the control words, and whether the state keeps its rule; position and queue may be others (CHIP 7.1)
 pub record SameAsked (request again : Request) : Type 0 where
   pub y : request .y ≡ again .y
   pub control : request .state .control ≡ again .state .control
   pub good : goodState (request .state) ≡ goodState (again .state)
 
--- the lengths of what is lent are the same; those of table and overlay row only where they are on
+-- the lengths of what is lent are the same; those of table and overlay row only where they are on (CHIP 7.1)
 pub record SameLengths (controls : Controls) (lent other : Lent) : Type 0 where
   pub store : length (lent .store) ≡ length (other .store)
   pub table : controls .ids ≡ true → length (lent .table) ≡ length (other .table)
   pub normal : length (lent .normal) ≡ length (other .normal)
   pub overlay : controls .overlay ≡ true → length (lent .overlay) ≡ length (other .overlay)
 
--- both: the second call may have another state, other memory, and an output that held other words
+-- both: the second call may have another state, other memory, and an output that held other words (CHIP 7.3)
 pub record SameCall (request again : Request) (lent other : Lent) (output old : List ℕ) : Type 0 where
   pub asked : SameAsked request again
   pub lengths : SameLengths (controlsIn request) lent other
   pub outputs : length output ≡ length old
 
--- two lents agree on the cells that the line reads of the first
+-- two lents agree on the cells that the line reads of the first (CHIP 7.3)
 abbrev pub AgreeOnReads : Setup → Lent → Lent → Type 0
 AgreeOnReads setup lent other = Agree (view lent) (view other) (reads (view lent) (lineRule setup))
 
@@ -52,7 +52,7 @@ pub record Keeps (request : Request) (lent : Lent) (output : List ℕ) : Type 0 
   pub past : drop (controlsIn request .width) (drawn request lent output .0 .1) ≡ drop (controlsIn request .width) output
   pub every-word : {refusal : Numbered} → drawn request lent output .1 ≡ refused refusal → drawn request lent output .0 .1 ≡ output
 
--- two calls answer the same, drawn or refused by the same number at the same place; where the line is drawn they put the same words into the active width; and each keeps the rest of its own
+-- two calls answer the same, drawn or refused by the same number at the same place; where the line is drawn they put the same words into the active width; and each keeps the rest of its own (CHIP 7.3)
 pub record DrawnAlike (request again : Request) (lent other : Lent) (output old : List ℕ) : Type 0 where
   pub answers : drawn request lent output .1 ≡ drawn again other old .1
   pub colours :

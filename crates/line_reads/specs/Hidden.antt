@@ -30,7 +30,7 @@ abbrev pub otherOverlay : Lent → List ℕ → Lent
 otherOverlay lent overlay = lentOf (lent .store) (lent .table) (lent .normal) overlay
 
 module _ (setup : Setup) (lent : Lent) where
-  -- another back buffer: of each pixel the sample that its window entry chooses is the same
+  -- another back buffer: of each pixel the sample that its window entry chooses is the same (CHIP 7.3)
   abbrev pub SameChosen : List ℕ → Type 0
   SameChosen row = EachPixel setup lent (λ x entry. chosen setup lent (lent .normal) x entry ≡ chosen setup lent row x entry)
 
@@ -38,20 +38,20 @@ module _ (setup : Setup) (lent : Lent) where
   abbrev pub chosenHalf : List ℕ → ℕ → WindowEntry → ℕ
   chosenHalf row x entry = bits (pixelWord (setup .controls .depth) row x) (entry .low) (setup .controls .depth / 2)
 
-  -- another back buffer where each window takes half a pixel: the other half of every pixel may hold anything
+  -- another back buffer where each window takes half a pixel: the other half of every pixel may hold anything (CHIP 7.3)
   abbrev pub SameHalves : List ℕ → Type 0
   SameHalves row =
       EachPixel setup lent (λ x entry.
       (widthsOf (entry .format) .bits ≤ setup .controls .depth / 2) × (chosenHalf (lent .normal) x entry ≡ chosenHalf row x entry))
 
-  -- other samples under an opaque cursor or overlay: pixels at which both are transparent are the same
+  -- other samples under an opaque cursor or overlay: pixels at which both are transparent are the same (CHIP 7.3)
   abbrev pub SameUncovered : List ℕ → Type 0
   SameUncovered row =
       EachPixel setup lent (λ x entry.
       CursorTransparent (cellsHere setup lent) (screenIn setup) x → OverlayTransparent (cellsHere setup lent) (screenIn setup) entry x
       → pixelWord (setup .controls .depth) (lent .normal) x ≡ pixelWord (setup .controls .depth) row x)
 
-  -- other overlay bytes under an opaque cursor, or where overlay doesn't count
+  -- other overlay bytes under an opaque cursor, or where overlay doesn't count (CHIP 7.3)
   abbrev pub SameOverlaid : List ℕ → Type 0
   SameOverlaid row =
       EachPixel setup lent (λ x entry.

@@ -9,7 +9,7 @@ use Rattle.line_reads.specs.TableList.{FrameListed, LineListed, WindowLi
 use Rattle.line_reads.specs.Listed.{ColoursListed, AsFarAs}
 
 module _ (setup : Setup) (lent : Lent) where
-  -- both fields of each frame entry searched and of each line entry searched; all 13 bits of the window entry of each ID met, covered or not; and the cells of colours, where there are colours
+  -- both fields of each frame entry searched and of each line entry searched; all 13 bits of the window entry of each ID met, covered or not; and the cells of colours, where there are colours (CHIP 7.1)
   abbrev pub PaperTo : Reach → Cell → Type 0
   PaperTo reach (ofTable (yend number)) = FrameListed setup lent (reach .frames) number
   PaperTo reach (ofTable (lineTable number)) = FrameListed setup lent (reach .frames) number
@@ -18,10 +18,10 @@ module _ (setup : Setup) (lent : Lent) where
   PaperTo reach (windowEntry id) = WindowListed setup lent (reach .met) id
   PaperTo reach (ofColour cell) = ColoursListed setup lent (reach .coloured) cell
 
-  -- the cells on the paper's list, as far as the line gets
+  -- the cells on the paper's list, as far as the line gets (CHIP 7.1)
   abbrev pub PaperListed : Cell → Type 0
   PaperListed cell = AsFarAs (setup .controls .width) PaperTo (lineOf setup lent) cell
 
--- two lents agree on the paper's list for the line of the first
+-- two lents agree on the paper's list for the line of the first (CHIP 7.3)
 abbrev pub AgreeOnPaper : Setup → Lent → Lent → Type 0
 AgreeOnPaper setup lent other = (cell : Cell) → PaperListed setup lent cell → view lent cell ≡ view other cell

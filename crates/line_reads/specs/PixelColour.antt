@@ -10,7 +10,7 @@ use Rattle.line.specs.Screen.{screenIn}
 use Rattle.line.specs.Cells.{Lent}
 use Rattle.line_reads.specs.TableList.{HasEntry}
 
--- pixel x has this colour: it has a window entry that is defined, and the colour is what the rule of a pixel says under that entry
+-- pixel x has this colour: it has a window entry that is defined, and the colour is what the rule of a pixel says under that entry (CHIP 6.1)
 pub record HasColour (setup : Setup) (lent : Lent) (x colour : ℕ) : Type 0 where
   pub entry : WindowEntry
   pub has : HasEntry setup lent x entry

@@ -53,15 +53,15 @@ module _ (setup : Setup) (lent : Lent) where
 
   -- ---- what is seen
 
-  -- of another table, the fields that the line reads; entries that it doesn't read and ignored bits may be any
+  -- of another table, the fields that the line reads; entries that it doesn't read and ignored bits may be any (CHIP 7.3)
   abbrev pub SameFields : List ℕ → Type 0
   SameFields table = (cell : TableCell) → Listed setup lent (ofTable cell) → tableView (lent .table) cell ≡ tableView table cell
 
-  -- of another store, the window entries of the IDs that the line meets
+  -- of another store, the window entries of the IDs that the line meets (CHIP 7.3)
   abbrev pub SameWindowEntries : List ℕ → Type 0
   SameWindowEntries store = (id : ℕ) → Listed setup lent (windowEntry id) → windowWord (lent .store) id ≡ windowWord store id
 
-  -- of another store, these window entries, and for each pixel its cell of the glyph, the cursor colour shown, the map entry hit and the byte of each gamma word hit; other cells, of the same words too, may be any
+  -- of another store, these window entries, and for each pixel its cell of the glyph, the cursor colour shown, the map entry hit and the byte of each gamma word hit; other cells, of the same words too, may be any (CHIP 7.3)
   pub record SameShown (store : List ℕ) : Type 0 where
     pub windows : SameWindowEntries store
     pub glyphs :
@@ -76,7 +76,7 @@ module _ (setup : Setup) (lent : Lent) where
         CursorTransparent cellsHere (screenIn setup) x → (channel : Channel) (number : ℕ) → GammaListed cellsHere (screenIn setup) entry x channel number
         → gammaByte (lent .store) channel number ≡ gammaByte store channel number)
 
-  -- of other rows, the overlay byte where it counts and the cursor is transparent, and the used bits of the chosen buffer where overlay is transparent too
+  -- of other rows, the overlay byte where it counts and the cursor is transparent, and the used bits of the chosen buffer where overlay is transparent too (CHIP 7.3)
   pub record SameRows (normal overlay : List ℕ) : Type 0 where
     pub overlay-bytes :
         EachPixel (λ x entry. CursorTransparent cellsHere (screenIn setup) x → BothSwitches (screenIn setup) entry → getD (lent .overlay) x 0 ≡ getD overlay x 0)
@@ -84,7 +84,7 @@ module _ (setup : Setup) (lent : Lent) where
         EachPixel (λ x entry.
         CursorTransparent cellsHere (screenIn setup) x → OverlayTransparent cellsHere (screenIn setup) entry x → chosen (lent .normal) x entry ≡ chosen normal x entry)
 
-  -- what the line sees is the same in other memory
+  -- what the line sees is the same in other memory (CHIP 7.3)
   pub record SameSeen (other : Lent) : Type 0 where
     pub table : SameFields (other .table)
     pub store : SameShown (other .store)

@@ -8,19 +8,19 @@ use Rattle.words.specs.Field.{field}
 use Rattle.chip_timing.specs.Move.{totalWidth, totalLines}
 use Rattle.line_setup.specs.declared.controls.Controls.{Controls}
 
--- the most pixels that a line can have
+-- the most pixels that a line can have (CHIP 2.3)
 abbrev pub widestLine : ℕ
 widestLine = 2048
 
--- a switch of control word 0
+-- a switch of control word 0 (CHIP 2.3)
 unfoldable pub switch : ℕ → ℕ → Bool
 switch word bit = eqb (field word bit bit) 1
 
--- the depth, by bit 4 of control word 0
+-- the depth, by bit 4 of control word 0 (CHIP 2.3)
 unfoldable pub depthOf : ℕ → ℕ
 depthOf word = cond (switch word 4) 32 16
 
--- the fields of the control words; sizes and totals are a field plus 1
+-- the fields of the control words; sizes and totals are a field plus 1 (CHIP 2.3)
 unfoldable pub controlsOf : List ℕ → Controls
 controlsOf control =
     record {

@@ -9,7 +9,7 @@ use Rattle.line_windows.specs.declared.ids.FoundId.{FoundId}
 use Rattle.line_windows.specs.declared.ids.LookedUp.{LookedUp}
 use Rattle.line_windows.specs.declared.ids.LookedUp.the-variants.{Id, Refused}
 
--- what the first entry, from entry `from` on, with xend ≥ x serves: its ID, its last pixel, and the entry to go on from after that
+-- what the first entry, from entry `from` on, with xend ≥ x serves: its ID, its last pixel, and the entry to go on from after that (CHIP 4.7)
 unfoldable pub foundFrom : ℕ → ℕ → ℕ → ℕ → Rule Numbered TableCell FoundId
 foundFrom tableBytes start from x = do
   entry ← lineEntryFrom tableBytes start from x
@@ -17,7 +17,7 @@ foundFrom tableBytes start from x = do
   id ← get (idCell start entry)
   done (record { id = id; last = last; next = entry + 1 })
 
--- what the look-up's answer says: what was found, or a refusal's number and values
+-- what the look-up's answer says: what was found, or a refusal's number and values (CHIP 4.9)
 abbrev pub lookUpOutcome : LookedUp → Outcome Numbered FoundId
 lookUpOutcome (Id found) = ok found
 lookUpOutcome (Refused refusal) = refused (numbered refusal)

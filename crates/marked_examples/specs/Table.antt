@@ -95,7 +95,7 @@ All (row ∷ rows) = row × All rows
 
 -- ---- the table
 
--- the rows in order, each a statement
+-- the rows in order, each a statement (CHIP 11.1)
 abbrev pub examples : List (Type 0)
 examples =
     -- (a) 5 in 3 bits

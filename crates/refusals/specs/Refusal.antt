@@ -13,7 +13,7 @@ use Rattle.refusals.specs.declared.Answer.the-variants.{Done, Refused}
 abbrev numberAt : ℕ → ℕ → Numbered
 numberAt number place = record { number = number; values = place ∷ [] }
 
--- 1 to 4 are placed at the address; 5 at 1 for the store, 2 the table, 3 the normal row, 4 the overlay row, 5 the output; 6 and 7 at the line, 8 and 9 at the pixel, 10 and 11 at 0; 12 to 14 at the record
+-- 1 to 4 are placed at the address; 5 at 1 for the store, 2 the table, 3 the normal row, 4 the overlay row, 5 the output; 6 and 7 at the line, 8 and 9 at the pixel, 10 and 11 at 0; 12 to 14 at the record (CHIP 8.1)
 abbrev pub numbered : Refusal → Numbered
 numbered (NoRegister address) = numberAt 1 address
 numbered (ReadOnly address) = numberAt 2 address
@@ -34,11 +34,11 @@ numbered (WrongRecord number) = numberAt 12 number
 numbered (FileEnds number) = numberAt 13 number
 numbered (TooMuch number) = numberAt 14 number
 
--- the number of a refusal
+-- the number of a refusal (CHIP 8.1)
 abbrev pub refusalNumber : Refusal → ℕ
 refusalNumber refusal = numbered refusal .number
 
--- the place of a refusal
+-- the place of a refusal (CHIP 8.1)
 abbrev pub refusalPlace : Refusal → ℕ
 refusalPlace refusal = placeIn (numbered refusal)
 

@@ -4,7 +4,7 @@ use mathlib.Core.List.{List, [], _∷_}
 use Rattle.rules.specs.Rule.{Rule, done, stop, Outcome, ok, refused}
 use Rattle.rules.specs.Faults.{Numbered, Fault}
 
--- the rule that refuses by the first fault that holds; it asks for no cell
+-- the rule that refuses by the first fault that holds; it asks for no cell (CHIP 8.1)
 abbrev pub checked : {Q : Type 0} → List Fault → Rule Numbered Q (Unit {0})
 checked [] = done tt
 checked (fault ∷ faults) = cond (fault .holds) (stop (fault .refusal)) (checked faults)

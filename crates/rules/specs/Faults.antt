@@ -21,7 +21,7 @@ abbrev pub Clear : List Fault → Type 0
 Clear [] = Unit {0}
 Clear (fault ∷ faults) = (fault .holds ≡ false) × Clear faults
 
--- of some faults, all before this one are clear, and this one holds and is refused so
+-- of some faults, all before this one are clear, and this one holds and is refused so (CHIP 8.1)
 pub record First (faults : List Fault) (refusal : Numbered) : Type 0 where
   pub passed : List Fault
   pub found : Fault
@@ -36,7 +36,7 @@ abbrev pub placeIn : Numbered → ℕ
 placeIn refusal = getD (refusal .values) 0 0
 
 module _ {Memory Answer : Type 0} where
-  -- what a call leaves and answers: at the first fault that holds all is left as it was, with its refusal; where none holds, what the call does
+  -- what a call leaves and answers: at the first fault that holds all is left as it was, with its refusal; where none holds, what the call does (CHIP 8.1)
   abbrev pub unless : List Fault → Memory → Memory × Answer → Memory × Outcome Numbered Answer
   unless [] before result = (result .0, ok (result .1))
   unless (fault ∷ faults) before result = cond (fault .holds) (before, refused (fault .refusal)) (unless faults before result)

@@ -16,7 +16,7 @@ pub record Held : Type 0 where
   pub output : List ℕ
   pub records : ℕ
 
--- at first: a fresh chip, its store all zero, and table and rows empty
+-- at first: a fresh chip, its store all zero, and table and rows empty (CHIP 9.2)
 abbrev pub nothingHeld : Held
 nothingHeld =
     record {

@@ -16,6 +16,6 @@ listingFrom (suc count) held bytes =
     textOf (step .0 .0 .output) (step .1)
     ++ cond (goesOn (step .1)) (listingFrom count (step .0 .0) (drop (step .0 .1) bytes)) []
 
--- the listing: there are at most 1,000,000 records, and one that is too much
+-- the listing: there are at most 1,000,000 records, and one that is too much (CHIP 9.3, 9.8)
 unfoldable pub listing : List ℕ → List ℕ
 listing file = listingFrom (mostRecords + 1) nothingHeld file

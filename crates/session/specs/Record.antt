@@ -28,20 +28,20 @@ use Rattle.line.specs.Request.{requestOf}
 use Rattle.line.specs.Drawn.{drawn}
 use Rattle.session.specs.Held.{Held, withChip, withTable, withNormal, withOverlay, withLine}
 
--- the entry of a call: this one where it is done, else its refusal
+-- the entry of a call: this one where it is done, else its refusal (CHIP 9.5)
 abbrev pub entryOf : {A : Type 0} → EntrySays → Outcome Numbered A → EntrySays
 entryOf entry (ok answer) = entry
 entryOf entry (refused refusal) = text.saysRefused refusal
 
--- the entry of dots: the position after them
+-- the entry of dots: the position after them (CHIP 9.7)
 abbrev pub atPosition : Position → EntrySays
 atPosition position = saysAt (position .x) (position .y)
 
--- a write
+-- a write (CHIP 9.7)
 abbrev pub wrote : Held → Chip × Outcome Numbered (Unit {0}) → Held × Status
 wrote held after = (withChip held (after .0), listed (entryOf text.saysOk (after .1)))
 
--- some dots
+-- some dots (CHIP 9.7)
 abbrev pub ranDots : Held → Chip × Outcome Numbered Report → Held × Status
 ranDots held after = (withChip held (after .0), listed (entryOf (atPosition (after .0 .0 .at)) (after .1)))
 
@@ -52,7 +52,7 @@ drew held y after = (
   listed (entryOf (saysLine y (controlsOf (held .chip .0 .control) .width)) (after .1)),
 )
 
--- what a record with this body leaves, and what it comes to. Table bytes are appended, a row is replaced; the end record lists nothing and ends the run
+-- what a record with this body leaves, and what it comes to. Table bytes are appended, a row is replaced; the end record lists nothing and ends the run (CHIP 9.2, 9.5)
 abbrev pub acted : Held → Record → List ℕ → Held × Status
 acted held End body = (held, ended)
 acted held (Write address value) body = wrote held (written (held .chip) address value)
@@ -64,7 +64,7 @@ acted held (Line y) body =
     drew held y
     (drawn (requestOf (held .chip .0) y) (lentOf (held .chip .1) (held .table) (held .normal) (held .overlay)) (held .output))
 
--- what comes of what was found: what is held, how many bytes were taken, and what it comes to. Without a record all is as it was
+-- what comes of what was found: what is held, how many bytes were taken, and what it comes to. Without a record all is as it was (CHIP 8.1, 9.1)
 abbrev pub statusBy : Held → List ℕ → RecordAt → (Held × ℕ) × Status
 statusBy held bytes (Is which count) =
     let after = acted held which (bodyOf bytes) in ((after .0, 3 + count), after .1)
@@ -75,6 +75,6 @@ statusBy held bytes (Refused refusal) = ((held, 0), stopped (numbered refusal))
 abbrev pub contextOf : Held → Bool → Context
 contextOf held last = record { number = held .records; table = length (held .table); last = last }
 
--- one step, at bytes with which the file ends or not
+-- one step, at bytes with which the file ends or not (CHIP 9.5, 9.8)
 unfoldable pub stepped : Bool → Held → List ℕ → (Held × ℕ) × Status
 stepped last held bytes = statusBy held bytes (recordAt (contextOf held last) bytes)

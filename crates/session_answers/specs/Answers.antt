@@ -6,7 +6,7 @@ use Rattle.session_answers.specs.declared.StepAnswer.the-variants.{Liste
 use Rattle.session_answers.specs.declared.Adds.{Adds}
 use Rattle.session_answers.specs.declared.Adds.the-variants.{One, Nothing}
 
--- what it adds to the listing: its entry, nothing at the end and where it waits, the refusal where it is one
+-- what it adds to the listing: its entry, nothing at the end and where it waits, the refusal where it is one (CHIP 9.5)
 abbrev pub adds : StepAnswer → Adds
 adds (Listed entry) = One entry
 adds End = Nothing
@@ -14,7 +14,7 @@ adds More = Nothing
 adds (Stopped refusal) = One (RefusedEntry refusal)
 adds (Refused refusal) = One (RefusedEntry refusal)
 
--- the run is over with it
+-- the run is over with it (CHIP 9.5)
 abbrev pub over : StepAnswer → Bool
 over (Listed entry) = false
 over End = true

@@ -17,14 +17,14 @@ pub data Status : Type 0 where
   needsMore : Status
   stopped : Numbered → Status
 
--- its text; a fault of the file is listed too
+-- its text; a fault of the file is listed too (CHIP 9.5, 9.7)
 abbrev pub textOf : List ℕ → Status → List ℕ
 textOf output (listed entry) = text entry output
 textOf output ended = []
 textOf output needsMore = []
 textOf output (stopped refusal) = text (entry.saysRefused refusal) output
 
--- the run goes on after it
+-- the run goes on after it (CHIP 9.5)
 abbrev pub goesOn : Status → Bool
 goesOn (listed entry) = true
 goesOn ended = false

@@ -18,7 +18,7 @@ use Rattle.session.specs.Step.{sessionStep}
 use Rattle.session.specs.declared.session.Session.{Session}
 use Rattle.session_files.specs.Steps.{none}
 
--- calls one after another, each with the session, the rooms and the place that the one before it left: from the bytes that are lent and the pieces to come, they list a text
+-- calls one after another, each with the session, the rooms and the place that the one before it left: from the bytes that are lent and the pieces to come, they list a text (CHIP 9.8)
 pub data Calls : Session → Rooms → List ℕ → ℕ → List (List ℕ) → List ℕ → Type 0 where
   -- before whatever call, bytes are lent in which what is unread stands at a place, and the next piece behind it
   adds : {session : Session} {rooms : Rooms} {bytes more piece : List ℕ} {place from : ℕ} {pieces : List (List ℕ)} {rest : List ℕ}

@@ -32,11 +32,11 @@ takenFrom (suc count) held bytes =
     let step = stepped true held bytes in
     step .0 .1 + cond (goesOn (step .1)) (takenFrom count (step .0 .0) (drop (step .0 .1) bytes)) 0
 
--- the run over these bytes reaches its end record
+-- the run over these bytes reaches its end record (CHIP 9.6)
 unfoldable pub reachesEnd : List ℕ → Bool
 reachesEnd file = endsFrom (mostRecords + 1) nothingHeld file
 
--- the bytes of a file up to its end record, with it
+-- the bytes of a file up to its end record, with it (CHIP 9.6)
 unfoldable pub toEnd : List ℕ → ℕ
 toEnd file = takenFrom (mostRecords + 1) nothingHeld file
 

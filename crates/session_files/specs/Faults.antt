@@ -7,7 +7,7 @@ use Rattle.refusals.specs.declared.Refusal.the-variants.{WrongRecord, FileEnds,
 use Rattle.session_records.specs.Faults.{wrong, tooMuch, missing}
 use Rattle.session_records.specs.declared.record.Context.{Context}
 
--- at bytes with which the file ends: 12, 14, 13, each at the record's number
+-- at bytes with which the file ends: 12, 14, 13, each at the record's number (CHIP 9.5)
 abbrev pub recordFaults : Context → List ℕ → List Fault
 recordFaults context bytes =
     fault (WrongRecord (context .number)) (wrong bytes)

@@ -15,7 +15,7 @@ abbrev pub none : List (List ℕ) → Bool
 none [] = true
 none (piece ∷ pieces) = false
 
--- steps one after another: from what is held, the bytes that are lent and unread, and the pieces to come, they list a text
+-- steps one after another: from what is held, the bytes that are lent and unread, and the pieces to come, they list a text (CHIP 9.8)
 pub data Steps : Held → List ℕ → List (List ℕ) → List ℕ → Type 0 where
   -- the next piece is lent behind what is unread, before whatever step
   adds : {held : Held} {unread piece : List ℕ} {pieces : List (List ℕ)} {rest : List ℕ}

@@ -14,7 +14,7 @@ use Rattle.session_listing.specs.declared.render.Rendered.the-variants.{
 abbrev pub roomOf : ℕ → ℕ
 roomOf colours = 32 + 7 * colours
 
--- the room of an entry: that of the colours which it shows
+-- the room of an entry: that of the colours which it shows (CHIP 9.7)
 abbrev pub roomFor : EntrySays → List ℕ → ℕ
 roomFor listed output = roomOf (length (coloursShown listed output))
 
@@ -22,7 +22,7 @@ roomFor listed output = roomOf (length (coloursShown listed output))
 abbrev pub placed : List ℕ → ℕ → List ℕ → List ℕ
 placed lent place bytes = take place lent ++ bytes ++ drop (place + length bytes) lent
 
--- where the room is there from a place on, the place after the entry's text, which then stands there; else no room, and the bytes as they were
+-- where the room is there from a place on, the place after the entry's text, which then stands there; else no room, and the bytes as they were (CHIP 9.7)
 abbrev pub rendered : EntrySays → List ℕ → List ℕ → ℕ → Rendered × List ℕ
 rendered listed output lent place =
     cond (leb (place + roomFor listed output) (length lent))

@@ -16,7 +16,7 @@ abbrev pub ascii : String → List ℕ
 ascii string.[] = []
 ascii (string._∷_ letter word) = code letter ∷ ascii word
 
--- an entry as the paper has it: what is done, a position, a line drawn so wide, or a refusal's number and values
+-- an entry as the paper has it: what is done, a position, a line drawn so wide, or a refusal's number and values (CHIP 9.7)
 pub data EntrySays : Type 0 where
   saysOk : EntrySays
   saysAt : ℕ → ℕ → EntrySays
@@ -30,34 +30,34 @@ entrySays (At x y) = saysAt x y
 entrySays (Line y width) = saysLine y width
 entrySays (Refused refusal) = saysRefused (numbered refusal)
 
--- a line of text, ended
+-- a line of text, ended (CHIP 9.7)
 abbrev pub ended : List ℕ → List ℕ
 ended line = line ++ 10 ∷ []
 
--- numbers in decimal, a space before each
+-- numbers in decimal, a space before each (CHIP 9.7)
 abbrev pub spaced : List ℕ → List ℕ
 spaced [] = []
 spaced (number ∷ numbers) = 32 ∷ decimal number ++ spaced numbers
 
--- each colour on a line of its own
+-- each colour on a line of its own (CHIP 9.7)
 abbrev pub pixels : List ℕ → List ℕ
 pixels [] = []
 pixels (colour ∷ colours) = ended (hex colour) ++ pixels colours
 
--- the first line of an entry, without its end
+-- the first line of an entry, without its end (CHIP 9.7)
 abbrev pub firstLine : EntrySays → List ℕ
 firstLine saysOk = ascii "ok"
 firstLine (saysAt x y) = ascii "at" ++ spaced (x ∷ y ∷ [])
 firstLine (saysLine y width) = ascii "line" ++ spaced (y ∷ [])
 firstLine (saysRefused refusal) = ascii "refused" ++ spaced (refusal .number ∷ refusal .values)
 
--- the colours that an entry shows: of a drawn line, those of the output up to its width
+-- the colours that an entry shows: of a drawn line, those of the output up to its width (CHIP 9.7)
 abbrev pub coloursShown : EntrySays → List ℕ → List ℕ
 coloursShown saysOk output = []
 coloursShown (saysAt x y) output = []
 coloursShown (saysLine y width) output = take width output
 coloursShown (saysRefused refusal) output = []
 
--- an entry's text: its first line, and each colour that it shows on a line of its own
+-- an entry's text: its first line, and each colour that it shows on a line of its own (CHIP 9.7)
 unfoldable pub text : EntrySays → List ℕ → List ℕ
 text listed output = ended (firstLine listed) ++ pixels (coloursShown listed output)

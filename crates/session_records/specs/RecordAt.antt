@@ -13,7 +13,7 @@ use Rattle.session_records.specs.declared.record.RecordAt.the-variants.{
 abbrev pub cutShort : Context → List ℕ → Bool
 cutShort context bytes = not (context .last) && missing bytes
 
--- 12, 14, 13, or the record. Where the file goes on past the bytes that are lent, what isn't wrong already waits for the rest of the record first
+-- 12, 14, 13, or the record. Where the file goes on past the bytes that are lent, what isn't wrong already waits for the rest of the record first (CHIP 9.5)
 unfoldable pub recordAt : Context → List ℕ → RecordAt
 recordAt context bytes =
     cond (wrong bytes) (Refused (WrongRecord (context .number)))

@@ -10,7 +10,7 @@ use Rattle.chip_registers.specs.Store.{storeLength}
 use Rattle.session_records.specs.Tags.{longestTable, longestNormal, longestOverlay}
 use Rattle.session_rooms.specs.declared.Counts.{Counts}
 
--- the words of the longest line: the active width less 1 has 11 bits
+-- the words of the longest line: the active width less 1 has 11 bits (CHIP 2.3)
 abbrev pub longestLine : ℕ
 longestLine = 2048
 
