@@ -1,9 +1,9 @@
 -- A turn and what it asks for take a run on. Assumes nothing.
 use Prim.Native.Nat.{ℕ, _≤_, _<_}
 use mathlib.Core.Path.{_≡_, refl, sym, ap, subst, _∙_}
-use mathlib.Core.Bool.{Bool, true, false, cond}
+use mathlib.Core.Bool.{Bool, true, false}
 use mathlib.Core.List.{List, [], _∷_, _++_}
-use mathlib.Core.Logic.{_⊎_, inl, inr}
+use mathlib.Core.Logic.{inl, inr}
 use native.Mathlib.Omega.{arith}
 use lib.ListN.{length, take, drop, length-append, length-take, length-drop}
 use Rattle.rules.specs.Rule.{Outcome, ok, refused}
@@ -16,8 +16,8 @@ use Rattle.session.specs.declared.session.Session.{Session}
 use Rattle.session_files.proofs.Step as step
 use Rattle.session_files.proofs.Calls.{same-status, same-place}
 use Rattle.replay.specs.Run.{RunAt, runOf, begun, goingSo, goesOnTurning, unreadIn, goingAfter, afterTaking, hasRoom, turned}
-use Rattle.replay.specs.Inner.{AfterWriting, AfterReading, took, again, failed, AfterServing}
-use Rattle.replay.specs.Runs.{asksAfter, waitsAfter, unreadAfter, servedSo, RunsTo, starts, turns, writes, reads, retries, fails, ends, breaks, Reached}
+use Rattle.replay.specs.Inner.{took, again, failed, AfterServing}
+use Rattle.replay.specs.Runs.{asksAfter, waitsAfter, unreadAfter, servedSo, starts, turns, writes, reads, retries, fails, ends, breaks, Reached}
 use Rattle.replay.specs.declared.course.Going.{Going}
 use Rattle.replay.specs.declared.course.Going.the-variants.{On, Full, Read, Over, Unread, Unwritten}
 use Rattle.replay.specs.declared.course.Course.{Course}

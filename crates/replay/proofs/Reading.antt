@@ -1,13 +1,13 @@
 -- What a read leaves, from the bytes moved to the front and those put behind them. Assumes nothing.
 use Prim.Native.Nat.{ℕ, suc, _+_, _≤_}
-use mathlib.Core.Path.{_≡_, refl, sym, ap, ap₂, subst, _∙_}
+use mathlib.Core.Path.{_≡_, refl, sym, ap, ap₂, _∙_}
 use mathlib.Core.Bool.{true, false}
 use mathlib.Core.List.{List, _++_}
 use mathlib.Core.Logic.{_⊎_, inl, inr}
 use native.Mathlib.Omega.{arith}
 use borrow.Author.Tests.{ne-eqb}
 use lib.ListN.{length, take, drop, length-drop}
-use lib.Seq.{slice, length-slice, length-take-le, take-at, take-add}
+use lib.Seq.{length-slice, length-take-le, take-at, take-add}
 use Rattle.replay.specs.Run.{unreadIn, toFront, takenIn, nothingRead}
 use Rattle.replay.specs.Inner.{AfterReading, took, again, failed}
 use Rattle.replay.specs.declared.course.Going.{Going}

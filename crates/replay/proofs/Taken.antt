@@ -1,26 +1,24 @@
 -- What a turn makes of what is held, unread and waiting. Assumes nothing.
 use Prim.Native.Nat.{ℕ, _+_, _≤_}
-use mathlib.Core.Path.{_≡_, refl, sym, ap, subst, _∙_}
-use mathlib.Core.Bool.{Bool}
+use mathlib.Core.Path.{_≡_, sym, ap, subst, _∙_}
 use mathlib.Core.List.{List, _++_}
 use native.Mathlib.Omega.{arith}
 use borrow.Author.Tests.{leb-true}
 use lib.ListN.{length, take, drop, length-append}
-use lib.Seq.{length-take-le, drop-drop, take-append-add, take-at}
-use Rattle.rules.specs.Rule.{Outcome, ok}
-use Rattle.rules.specs.Faults.{Numbered}
+use lib.Seq.{length-take-le, drop-drop, take-at}
+use Rattle.rules.specs.Rule.{ok}
 use Rattle.session_listing.specs.Room.{roomOf, placed}
 use Rattle.session_answers.specs.Status.{Status, textOf}
 use Rattle.session.specs.Held.{Held}
 use Rattle.session.specs.Record.{stepped}
-use Rattle.session.specs.Lent.{heldIn, roomsWith, sessionOf}
+use Rattle.session.specs.Lent.{heldIn}
 use Rattle.session.specs.Step.{Left, afterStep}
 use Rattle.session_files.proofs.Calls.{held-again}
-use Rattle.session_files.proofs.Answered.{Ready, left, call-answered, stays-ready}
-use Rattle.replay.specs.Run.{RunAt, runOf, goingSo, unreadIn, textWaiting, goingAfter, afterTaking, turned}
+use Rattle.session_files.proofs.Answered.{Ready, call-answered, stays-ready}
+use Rattle.replay.specs.Run.{RunAt, unreadIn, textWaiting, goingAfter, afterTaking, turned}
 use Rattle.replay.specs.Runs.{asksAfter, waitsAfter, unreadAfter}
 use Rattle.replay.specs.declared.course.Going.the-variants.{Full}
-use Rattle.replay.proofs.Turns.{stepOf, roomIn}
+use Rattle.replay.proofs.Turns.{stepOf}
 use Rattle.replay.proofs.Loop.{Turns, steps, full, a-turn}
 
 -- what is held in a run

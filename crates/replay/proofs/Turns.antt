@@ -7,9 +7,7 @@ use lib.ListN.{length, take}
 use Rattle.rules.specs.Rule.{Outcome}
 use Rattle.rules.specs.Faults.{Numbered}
 use Rattle.session_answers.specs.Status.{Status}
-use Rattle.session.specs.Lent.{Rooms}
 use Rattle.session.specs.Step.{Left, sessionStep}
-use Rattle.session.specs.declared.session.Session.{Session}
 use Rattle.replay.specs.Run.{RunAt, runOf, courseOf, goingSo, goingAfter, addedBy, putBehind, afterTaking, hasRoom, turned}
 use Rattle.replay.specs.declared.course.Going.the-variants.{Full}
 

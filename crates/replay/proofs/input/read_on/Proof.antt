@@ -1,5 +1,4 @@
 -- `replay::input::read_on` meets its contract: the unread bytes stand at the front, and what was read behind them. Assumes nothing.
-use native.Mathlib.Omega.{arith}
 use borrow.Author.Needs.{needs}
 use Rattle.replay.proofs.Reading.{kept-few, read-none, read-some}
 use Rattle.replay.proofs.input.read_on.Statement.{statement}

@@ -1,6 +1,5 @@
 -- `replay::input::to_front` meets its contract: before each turn so many bytes are at the front, and the measure is the number of bytes left. Assumes nothing.
 use Prim.Native.Nat.{_-_}
-use mathlib.Core.Path.{_≡_}
 use borrow.Author.Needs.{needs}
 use native.Mathlib.Omega.{arith}
 use Rattle.replay.proofs.Front.{Moving, many, moved-already, moving-start, moving-next, moving-over}

@@ -5,7 +5,6 @@ use mathlib.Core.Logic.{inl, inr}
 use borrow.Author.Needs.{needs}
 use lib.ListN.{length}
 use Rattle.replay.specs.Run.{unreadIn}
-use Rattle.replay.specs.Inner.{AfterReading}
 use Rattle.replay.specs.declared.course.Course.{Course}
 use Rattle.replay.proofs.run.read_after.Statement.{statement}
 use Rattle.replay.proofs.run.read_after.Tie as tie

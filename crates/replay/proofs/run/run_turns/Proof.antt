@@ -1,14 +1,11 @@
 -- `replay::run::run_turns` meets its contract: each turn takes the run on, and the measure is the number of turns left. Assumes nothing.
-use Prim.Native.Nat.{_≤_}
 use mathlib.Core.Path.{_≡_, refl, sym, _∙_}
 use native.Mathlib.Omega.{arith}
 use borrow.Author.Needs.{needs}
-use denote.Ref.{now}
 use lib.ListN.{length}
 use Rattle.session.specs.Held.{nothingHeld}
 use Rattle.session.specs.Lent.{roomsOf, sessionOf}
-use Rattle.replay.specs.Run.{RunAt, begun, runOf}
-use Rattle.replay.specs.declared.course.Course.{Course}
+use Rattle.replay.specs.Run.{begun, runOf}
 use Rattle.replay.proofs.Loop.{Running, running-start, running-next, serves-room}
 use Rattle.replay.proofs.run.run_turns.Statement.{statement}
 use Rattle.replay.proofs.run.run_turns.Tie as tie

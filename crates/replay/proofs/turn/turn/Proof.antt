@@ -9,9 +9,8 @@ use lib.ListN.{length}
 use Prim.Native.Nat.{_+_}
 use Rattle.session_listing.specs.Room.{roomOf}
 use Rattle.session.specs.Lent.{roomsOf}
-use Rattle.replay.specs.Run.{RunAt, runOf, courseOf}
+use Rattle.replay.specs.Run.{RunAt, runOf}
 use Rattle.replay.specs.declared.course.Course.{Course}
-use Rattle.replay.specs.declared.course.Going.{Going}
 use Rattle.replay.proofs.Turns.{turned-full, turn-made}
 use Rattle.replay.proofs.turn.turn.Statement.{statement}
 use Rattle.replay.proofs.turn.turn.Tie as tie
