@@ -114,14 +114,14 @@ pub(crate) fn turn(
     );
     let next = stepped.session;
     let answer = stepped.answer;
-    let put = put_added(answer, output, lines, course.put);
+    let end = put_added(answer, output, lines, course.put);
     Turned {
         session: next,
         course: Course {
             from: stepped.place,
             to: course.to,
             last: course.last,
-            put,
+            put: end,
             going: going_after(answer),
         },
     }
