@@ -6,15 +6,16 @@ use mathlib.Core.List.{List, [], _∷_}
 use native.Mathlib.Nat.{zero-add}
 use native.Mathlib.Omega.{arith}
 use borrow.Author.Tests.{lt-ltb, le-ltb, le-leb}
-use lib.ListN.{length, length-take}
+use lib.ListN.{length}
 use Rattle.rules.specs.Rule.{Outcome, ok, refused}
 use Rattle.rules.specs.Faults.{Numbered, Fault}
 use Rattle.rules.specs.Checked.{verdict}
 use Rattle.rules.proofs.Last.{firstOr, last-clear, last-holds}
 use Rattle.c_numbers.specs.Numbers.{refusedBy}
-use Rattle.session_listing.specs.Text.{EntrySays, coloursShown, text}
+use Rattle.session_listing.specs.Text.{EntrySays, text}
 use Rattle.session_listing.specs.Text as entry
 use Rattle.session_listing.specs.Room.{roomFor}
+use Rattle.session_listing.proofs.Fits.{shown-short}
 use Rattle.session_answers.specs.Status.{Status, listed, ended, needsMore, stopped}
 use Rattle.session_rooms.specs.Rooms.{longestLine}
 use Rattle.session.specs.Lent.{Rooms, laid}
@@ -35,13 +36,6 @@ by-fault false one other rest e = e
 by-rooms-or-text : (faults : List Fault) → orText (verdict faults) ≡ refusedBy (firstOr faults shortText)
 by-rooms-or-text [] = refl
 by-rooms-or-text (fault ∷ faults) = by-fault (fault .holds) (fault .refusal) (firstOr faults shortText) (verdict faults) (by-rooms-or-text faults)
-
--- an entry shows no more colours than the output has
-shown-short : (entry : EntrySays) (output : List ℕ) → length (coloursShown entry output) ≤ length output
-shown-short entry.saysOk output = omega arith
-shown-short (entry.saysAt x y) output = omega arith
-shown-short (entry.saysLine y width) output = omega (arith, length-take width output)
-shown-short (entry.saysRefused refusal) output = omega arith
 
 module _ (output lent : List ℕ) (long : textRoom ≤ length lent) where
   -- in a text long enough an entry has room

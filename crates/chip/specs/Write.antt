@@ -3,9 +3,9 @@ use Prim.Native.Nat.{ℕ}
 use mathlib.Core.Bool.{Bool, true, not, cond, _&&_}
 use mathlib.Core.List.{List, [], _∷_, _++_}
 use lib.ListN.{length, set}
-use Rattle.rules.specs.Rule.{Outcome, ok, refused}
+use Rattle.rules.specs.Rule.{Outcome, refused}
 use Rattle.rules.specs.Faults.{Numbered, Fault, unless}
-use Rattle.refusals.specs.Refusal.{numbered, fault}
+use Rattle.refusals.specs.Refusal.{fault}
 use Rattle.refusals.specs.declared.Refusal.the-variants.{NoRegister, ReadOnly, StrayBits, QueueFull}
 use Rattle.chip_registers.specs.Named.{addressPlace, named}
 use Rattle.chip_registers.specs.Kept.{fits}

@@ -9,7 +9,6 @@ use Rattle.chip_registers.specs.Store.{inStore, storeStart, storeLength,
 use Rattle.chip_registers.specs.declared.Block.{Block}
 use Rattle.chip_registers.specs.declared.Block.the-variants.{Control, WindowEntries, ColourMap, GammaMap, CursorGlyph, CursorColours}
 use Rattle.chip_registers.specs.declared.Register.{Register}
-use Rattle.chip_registers.specs.declared.StorePlace.{StorePlace}
 use Rattle.chip_registers.specs.declared.StorePlace.the-variants.{At, Nowhere}
 
 -- the store has 4,963 words

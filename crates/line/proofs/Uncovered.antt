@@ -82,20 +82,21 @@ checks-bare : (setup : Setup) → checksOf (bare setup) ≡ checksOf setup
 unfolding lineFaults aboveTotal lengthFaults tableTooLong overlayWrong entriesOf startOf windowEntryAt idAt
 checks-bare setup = refl
 
+-- no colour refuses
+pub never-colours : (setup : Setup) (entries : List WindowEntry) → NeverRefuses (coloursOf setup entries)
+unfolding coloursOf
+never-colours setup entries = never-each-of _ (λ entry x. never-within _ ofColour (colourOfPixel (screenIn setup) entry x)) entries 0
+
 module _ (setup : Setup) (lent : Lent) {refusal : Numbered} where
   -- a line is refused by a check
   line-by-checks : lineOf setup lent ≡ refused refusal → run (view lent) (checksOf setup) ≡ refused refusal
-  unfolding lineOf lineRule coloursOf
+  unfolding lineOf lineRule
   line-by-checks e = by (either (view lent) (checked (lineFaults setup)) _ e)
     where
-      -- the second pass refuses nothing
-      never : (entries : List WindowEntry) → NeverRefuses (coloursOf setup entries)
-      never entries = never-each-of _ (λ entry x. never-within _ ofColour (colourOfPixel (screenIn setup) entry x)) entries 0
-
       -- past the faults an entry refuses
       next : Either (view lent) (entriesOf setup) (coloursOf setup) refusal → run (view lent) (entriesOf setup) ≡ refused refusal
       next (at-first none) = none
-      next (at-second entries found none) = absurd (never-refused (view lent) (coloursOf setup entries) (never entries) none)
+      next (at-second entries found none) = absurd (never-refused (view lent) (coloursOf setup entries) (never-colours setup entries) none)
 
       -- a fault refuses, or an entry
       by : Either (view lent) (checked (lineFaults setup)) (λ fine. entriesOf setup >>= coloursOf setup) refusal → run (view lent) (checksOf setup) ≡ refused refusal

@@ -6,23 +6,20 @@ use Rattle.rules.specs.Rule.{Rule, Outcome, ok, refused, run, reads, _>>=_}
 use Rattle.rules.specs.Faults.{Numbered}
 use Rattle.rules.specs.Checked.{checked, verdict}
 use Rattle.rules.proofs.Then.{reads-ok, reads-refused}
-use Rattle.rules.proofs.Asks.{Asks, NeverRefuses, asks-reads, asks-then, refused-reads, asks-cond, asks-any, asks-each, never-each-of, asks-within}
+use Rattle.rules.proofs.Asks.{Asks, asks-reads, asks-then, refused-reads, asks-cond, asks-any, asks-each, asks-within}
 use Rattle.rules.proofs.Checked.{run-checked, checked-reads}
-use Rattle.rules.proofs.Value.{never-within}
 use Rattle.line_colour.specs.Entry.{decoded}
-use Rattle.line_colour.specs.declared.entry.WindowEntry.{WindowEntry}
 use Rattle.line_windows.specs.Table.{TableCell}
 use Rattle.line_windows.specs.Frame.{lineTableOf}
 use Rattle.line_windows.specs.Ids.{idOf}
-use Rattle.line_pixels.specs.Colour.{colourOfPixel}
 use Rattle.line_setup.specs.Faults.{lineFaults}
 use Rattle.line_setup.specs.declared.controls.Controls.{Controls}
 use Rattle.line_setup.specs.declared.setup.Setup.{Setup}
-use Rattle.line.specs.Screen.{screenIn}
 use Rattle.line.specs.Cells.{Cell, ofTable, windowEntry, ofColour, Lent, view}
 use Rattle.line.specs.Line.{inTable, startOf, idAt, windowEntryAt, entriesOf, coloursOf, lineRule, lineOf}
 use Rattle.line.proofs.Defined.{asks-nothing}
 use Rattle.line.proofs.Whole.{line-unfit, by-entries}
+use Rattle.line.proofs.Uncovered.{never-colours}
 
 -- no colour comes from the cell
 abbrev pub NoColour : Cell → Type 0
@@ -62,12 +59,6 @@ module _ (setup : Setup) where
       asks-then NoColour (startOf (setup .controls) (setup .lengths .table) (setup .y)) _ (asks-start (setup .controls) (setup .lengths .table) (setup .y))
       (λ start. asks-each NoColour _ (asks-entry (setup .controls) (setup .lengths .table) start) (setup .controls .width) 0)
 
-  -- the second pass refuses nothing
-  pub never-colours : (entries : List WindowEntry) → NeverRefuses (coloursOf setup entries)
-  unfolding coloursOf
-  never-colours entries =
-      never-each-of _ (λ entry x. never-within _ ofColour (colourOfPixel (screenIn setup) entry x)) entries 0
-
   module _ (lent : Lent) where
     -- a line that is refused by what it goes by alone reads nothing
     pub unread : {refusal : Numbered} → verdict (lineFaults setup) ≡ refused refusal → reads (view lent) (lineRule setup) ≡ []
@@ -105,4 +96,4 @@ module _ (setup : Setup) where
         by (ok tt) fine =
             asks-reads NoColour (view lent) (entriesOf setup) asks-entries cell
             (subst (List·Memᴰ cell)
-            (reads-passes fine ∙ refused-reads (view lent) (entriesOf setup) (coloursOf setup) never-colours (sym (passes fine) ∙ e)) here)
+            (reads-passes fine ∙ refused-reads (view lent) (entriesOf setup) (coloursOf setup) (never-colours setup) (sym (passes fine) ∙ e)) here)

@@ -25,9 +25,10 @@ use Rattle.line_setup.specs.declared.setup.Setup.{Setup}
 use Rattle.line.specs.Screen.{screenIn}
 use Rattle.line.specs.Cells.{Cell, ofColour, Lent, view}
 use Rattle.line.specs.Line.{entriesOf, inColours, coloursOf, lineRule, lineOf}
+use Rattle.line.proofs.Uncovered.{never-colours}
 use Rattle.line_reads.specs.Reach.{Reach, drawnWhole, noLineEntry, undefinedEntry}
 use Rattle.line_reads.specs.Listed.{ListedTo, RefusedListed, of-7, of-8, of-9, ListedFor, Listed}
-use Rattle.line_reads.proofs.Before.{never-colours, unread, passes, reads-passes}
+use Rattle.line_reads.proofs.Before.{unread, passes, reads-passes}
 use Rattle.line_reads.proofs.Colours.{colour-read}
 use Rattle.line_reads.proofs.Frames.{starting, identifying, start-read, NoFrame, no-frame, frame-number, no-frame-read}
 use Rattle.line_reads.proofs.Pixels.{entering, pixel-read, entry-id, NoId, RefusedPixel, without-id, undefined, pixel-refused, no-id-read}

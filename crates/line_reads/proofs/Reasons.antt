@@ -26,8 +26,9 @@ use Rattle.line.specs.Cells.{Lent, view}
 use Rattle.line.specs.Line.{definedAt, windowEntryAt, entriesOf, coloursOf, lineOf}
 use Rattle.line.proofs.Entries.{run-in-table}
 use Rattle.line.proofs.Defined.{refuses-undefined}
+use Rattle.line.proofs.Uncovered.{never-colours}
 use Rattle.line_reads.specs.Reasons.{NoFrameServes, NoLineEntryServes, UndefinedAt, ComesTo, Reason, at-once, no-frame-entry, no-line-entry, undefined-entry}
-use Rattle.line_reads.proofs.Before.{never-colours, refused-unread, passes}
+use Rattle.line_reads.proofs.Before.{refused-unread, passes}
 use Rattle.line_reads.proofs.Served.{whole-frame, frame-whole, whole-line, line-whole}
 use Rattle.line_reads.proofs.Frames.{starting, identifying, start-on, starts-at, starts-found, NoFrame, no-frame}
 use Rattle.line_reads.proofs.Pixels.{entering, id-run, RefusedPixel, without-id, undefined, pixel-refused}

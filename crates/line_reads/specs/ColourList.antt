@@ -15,7 +15,7 @@ use Rattle.line_pixels.specs.declared.Screen.{Screen}
 -- ---- the cursor
 
 module _ (screen : Screen) (x : ℕ) where
-  -- the pixel's own cell of the glyph, if on and inside: column x + 31 − cx and row y + 31 − cy, both 0 to 31, and no cross-hair (CHIP 7.1)
+  -- the pixel's own cell of the glyph, if on and inside: column x + 31 − cx and row y + 31 − cy, both 0 to 31, and no cross-hair (CHIP 6.5, 7.1)
   pub record GlyphListed (row column : ℕ) : Type 0 where
     pub on : screen .cursor ≡ true
     pub no-crosshair : screen .crosshair ≡ false
@@ -24,52 +24,52 @@ module _ (screen : Screen) (x : ℕ) where
     pub at-column : column + screen .cx ≡ x + 31
     pub column-inside : column ≤ 31
 
-  -- the pixel is on the cross-hair, which needs the cursor on: x = cx or y = cy (CHIP 7.1)
+  -- the pixel is on the cross-hair, which needs the cursor on: x = cx or y = cy (CHIP 6.6)
   pub record CrossHairHere : Type 0 where
     pub on : screen .cursor ≡ true
     pub crosshair : screen .crosshair ≡ true
     pub meets : (x ≡ screen .cx) ⊎ (screen .y ≡ screen .cy)
 
 module _ (memory : PixelCell → ℕ) (screen : Screen) (x : ℕ) where
-  -- the cursor shows this colour: the number in the pixel's cell of the glyph, or 1 on the cross-hair; 0 is transparent (CHIP 7.1)
+  -- the cursor shows this colour: the number in the pixel's cell of the glyph, or 1 on the cross-hair; 0 is transparent (CHIP 6.5, 6.6)
   pub data CursorColourHere (number : ℕ) : Type 0 where
     by-glyph : (row column : ℕ) → GlyphListed screen x row column → number ≡ memory (glyph row column) → number ≢ 0 → CursorColourHere number
     by-crosshair : CrossHairHere screen x → number ≡ 1 → CursorColourHere number
 
-  -- the cursor is transparent: it shows no colour (CHIP 7.1)
+  -- the cursor is transparent: it shows no colour (CHIP 6.1)
   abbrev pub CursorTransparent : Type 0
   CursorTransparent = (number : ℕ) → CursorColourHere number → ⊥
 
 -- ---- overlay
 
--- overlay counts: both switches are on, the control word's and the window entry's (CHIP 7.1)
+-- overlay counts: both switches are on, the control word's and the window entry's (CHIP 6.2)
 pub record BothSwitches (screen : Screen) (entry : WindowEntry) : Type 0 where
   pub on : screen .overlay ≡ true
   pub allowed : entry .overlay ≡ true
 
 module _ (memory : PixelCell → ℕ) (screen : Screen) (entry : WindowEntry) (x : ℕ) where
-  -- overlay shows this byte: it counts, and the byte is not 0 (CHIP 7.1)
+  -- overlay shows this byte: it counts, and the byte is not 0 (CHIP 6.2)
   pub record OverlayByteHere (byte : ℕ) : Type 0 where
     pub counts : BothSwitches screen entry
     pub is : byte ≡ memory (overlayByte x)
     pub shows : byte ≢ 0
 
-  -- overlay is transparent: where it counts the byte is 0 (CHIP 7.1)
+  -- overlay is transparent: where it counts the byte is 0 (CHIP 6.2)
   abbrev pub OverlayTransparent : Type 0
   OverlayTransparent = BothSwitches screen entry → memory (overlayByte x) ≡ 0
 
   -- ---- below both
 
-  -- the used bits of the chosen buffer (CHIP 7.1)
+  -- the used bits of the chosen buffer (CHIP 5.3)
   abbrev pub usedCell : PixelCell
   usedCell = sample (screen .depth) x (entry .low) (widthsOf (entry .format) .bits)
 
-  -- the word of what a sample shows: the map entry that it hits, or a colour of its own (CHIP 7.1)
+  -- the word of what a sample shows: the map entry that it hits, or a colour of its own (CHIP 5.5, 5.6)
   abbrev pub wordShown : Shown → ℕ
   wordShown (MapEntry number) = memory (mapEntry number)
   wordShown (Colour colour) = wordOf colour
 
-  -- the colour under the cursor before gamma: map entry 4,352 + byte where overlay shows, else the normal one (CHIP 7.1)
+  -- the colour under the cursor before gamma: map entry 4,352 + byte where overlay shows, else the normal one (CHIP 6.1, 6.2)
   pub data BeforeGamma (colour : ℕ) : Type 0 where
     of-overlay : (byte : ℕ) → OverlayByteHere byte → colour ≡ memory (mapEntry (4352 + byte)) → BeforeGamma colour
     of-sample : OverlayTransparent → colour ≡ wordShown (shownOf entry (memory usedCell)) → BeforeGamma colour
@@ -91,7 +91,7 @@ module _ (memory : PixelCell → ℕ) (screen : Screen) (entry : WindowEntry) (x
     by-overlay : (byte : ℕ) → OverlayByteHere byte → number ≡ 4352 + byte → MapListed number
     by-sample : OverlayTransparent → shownOf entry (memory usedCell) ≡ MapEntry number → MapListed number
 
-  -- a channel's byte of the gamma word that this channel of the colour indexes, where the window entry doesn't bypass gamma (CHIP 7.1)
+  -- a channel's byte of the gamma word that this channel of the colour indexes, where the window entry doesn't bypass gamma (CHIP 6.3, 7.1)
   pub record GammaListed (channel : Channel) (number : ℕ) : Type 0 where
     pub through : entry .bypass ≡ false
     pub colour : ℕ

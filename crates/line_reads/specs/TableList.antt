@@ -17,41 +17,41 @@ module _ (setup : Setup) (lent : Lent) where
 
   -- ---- which entry serves
 
-  -- a frame entry of the table: 4 bytes, whole ones alone and 2,048 at most; where window IDs are off there is none (CHIP 7.1)
+  -- a frame entry of the table: 4 bytes, whole ones alone and 2,048 at most; where window IDs are off there is none (CHIP 4.3)
   pub record WholeFrameEntry (number : ℕ) : Type 0 where
     pub on : setup .controls .ids ≡ true
     pub at-most : number < 2048
     pub in-table : 4 * number + 4 ≤ setup .lengths .table
 
-  -- the line's frame entry: the first with yend ≥ y (CHIP 7.1)
+  -- the line's frame entry: the first with yend ≥ y (CHIP 4.4)
   pub record FrameEntry (entry : ℕ) : Type 0 where
     pub whole : WholeFrameEntry entry
     pub reaches : setup .y ≤ tableFields (yend entry)
     pub earlier : (i : ℕ) → i < entry → tableFields (yend i) < setup .y
 
-  -- the byte at which the line's table starts: that frame entry's 512·block + 2·offset (CHIP 7.1)
+  -- the byte at which the line's table starts: that frame entry's 512·block + 2·offset (CHIP 4.5)
   pub record StartsAt (start : ℕ) : Type 0 where
     pub frame : ℕ
     pub found : FrameEntry frame
     pub is : start ≡ tableFields (lineTable frame)
 
-  -- an entry of the line table that starts at a byte: 2 bytes, whole ones alone, before its 512-byte block or the table ends (CHIP 7.1)
+  -- an entry of the line table that starts at a byte: 2 bytes, whole ones alone, before its 512-byte block or the table ends (CHIP 4.5, 4.6)
   pub record WholeLineEntry (start number : ℕ) : Type 0 where
     pub in-block : start + 2 * number + 2 ≤ 512 * (start / 512) + 512
     pub in-table : start + 2 * number + 2 ≤ setup .lengths .table
 
-  -- the line entry of pixel x: the first with xend ≥ x (CHIP 7.1)
+  -- the line entry of pixel x: the first with xend ≥ x (CHIP 4.7)
   pub record LineEntry (start x entry : ℕ) : Type 0 where
     pub whole : WholeLineEntry start entry
     pub reaches : x ≤ tableFields (xend (start + 2 * entry))
     pub earlier : (i : ℕ) → i < entry → tableFields (xend (start + 2 * i)) < x
 
-  -- pixel x has this ID: 0 where window IDs are off, else that of its line entry (CHIP 7.1)
+  -- pixel x has this ID: 0 where window IDs are off, else that of its line entry (CHIP 4.1, 4.7)
   pub data HasId (x id : ℕ) : Type 0 where
     ids-off : setup .controls .ids ≡ false → id ≡ 0 → HasId x id
     ids-on : (start : ℕ) → StartsAt start → (entry : ℕ) → LineEntry start x entry → id ≡ tableFields (windowId (start + 2 * entry)) → HasId x id
 
-  -- pixel x has this window entry: it is that of the pixel's ID, and it is defined at the depth (CHIP 7.1)
+  -- pixel x has this window entry: it is that of the pixel's ID, and it is defined at the depth (CHIP 5.4)
   pub record HasEntry (x : ℕ) (entry : WindowEntry) : Type 0 where
     pub id : ℕ
     pub has : HasId x id

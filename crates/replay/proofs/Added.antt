@@ -6,13 +6,14 @@ use mathlib.Core.List.{List, [], _∷_}
 use native.Mathlib.Omega.{arith}
 use native.Mathlib.Nat.{add-zero}
 use borrow.Author.Tests.{le-leb}
-use lib.ListN.{length, length-take}
+use lib.ListN.{length}
 use lib.Seq.{paste-zero}
 use types.Run.{OneOf, miss}
 use denote.Enum.Declared.{tagOf}
 use Rattle.rules.proofs.Cases.{impossible}
-use Rattle.session_listing.specs.Text.{EntrySays, saysOk, saysAt, saysLine, saysRefused, entrySays, coloursShown, text}
+use Rattle.session_listing.specs.Text.{EntrySays, entrySays, text}
 use Rattle.session_listing.specs.Room.{roomOf, roomFor, placed, rendered}
+use Rattle.session_listing.proofs.Fits.{shown-short}
 use Rattle.session_listing.specs.declared.render.Rendered.{Rendered}
 use Rattle.session_listing.specs.declared.render.Rendered.the-variants.{To, NoRoom}
 use Rattle.session_answers.specs.Status.{stepOutcome}
@@ -24,13 +25,6 @@ use Rattle.session_answers.specs.declared.StepAnswer.the-variants.{Listed, End,
 use Rattle.session_answers.proofs.StepAnswer.{the-type}
 use Rattle.replay.specs.Run.{goingAfter, addedBy, putBehind}
 use Rattle.replay.specs.declared.course.Going.the-variants.{On, Over}
-
--- an entry shows no more colours than the output has
-shown-short : (entry : EntrySays) (output : List ℕ) → length (coloursShown entry output) ≤ length output
-shown-short saysOk output = omega arith
-shown-short (saysAt x y) output = omega arith
-shown-short (saysLine y width) output = omega (arith, length-take width output)
-shown-short (saysRefused refusal) output = omega arith
 
 -- the place after a text that was rendered
 abbrev endOf : Rendered → ℕ

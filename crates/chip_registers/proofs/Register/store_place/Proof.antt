@@ -1,10 +1,8 @@
 -- `chip_registers::Register::store_place` meets its contract: the words before its block and then its own, where the store has its block. Assumes nothing.
 use Prim.Native.Nat.{ℕ, _+_}
-use mathlib.Core.Path.{_≡_, sym, ap, _∙_}
-use mathlib.Core.Bool.{true}
+use mathlib.Core.Path.{sym, ap, _∙_}
 use native.Mathlib.Omega.{arith}
 use borrow.Author.Needs.{needs}
-use Rattle.chip_registers.specs.Store.{inStore}
 use Rattle.chip_registers.specs.declared.BlockRow.{BlockRow}
 use Rattle.chip_registers.specs.declared.StorePlace.the-variants.{At}
 use Rattle.chip_registers.proofs.Store.{start-le, stored-place}
