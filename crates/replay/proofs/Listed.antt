@@ -139,7 +139,7 @@ module _ (rooms : Rooms) (input lines : List ℕ) (zeroed : Zeroed rooms) (right
   start = runOf begun (sessionOf nothingHeld) rooms input lines
 
   -- no call of it is refused
-  runs-ready : {pieces : List (List ℕ)} {written : List ℕ} {run : RunAt} → RunsTo start pieces written run → Ready (run .session) (run .rooms)
+  runs-ready : {made : ℕ} {pieces : List (List ℕ)} {written : List ℕ} {run : RunAt} → RunsTo start made pieces written run → Ready (run .session) (run .rooms)
   runs-ready starts = first-ready zeroed right
   runs-ready (turns {run = run} before on is) = turn-ready run (runs-ready before)
   runs-ready (writes {run = run} before on is) = turn-ready run (runs-ready before)
@@ -150,7 +150,7 @@ module _ (rooms : Rooms) (input lines : List ℕ) (zeroed : Zeroed rooms) (right
   runs-ready (breaks {run = run} before on) = turn-ready run (runs-ready before)
 
   -- steps from a run on are steps from its start on, with what it read before and what it wrote
-  runs-steps : {pieces : List (List ℕ)} {written : List ℕ} {run : RunAt} → RunsTo start pieces written run → run .course .going ≡ On
+  runs-steps : {made : ℕ} {pieces : List (List ℕ)} {written : List ℕ} {run : RunAt} → RunsTo start made pieces written run → run .course .going ≡ On
       → (others : List (List ℕ)) → none others ≡ run .course .last → {rest : List ℕ} → Steps (heldBy run) (unreadBy run) others rest
       → Steps (heldBy start) [] (pieces ++ others) (written ++ (waitsBy run ++ rest))
   runs-steps starts on others last onwards = onwards
@@ -184,7 +184,7 @@ module _ (rooms : Rooms) (input lines : List ℕ) (zeroed : Zeroed rooms) (right
   runs-steps (breaks before was) on others last onwards = impossible (cc on)
 
   -- a run that is over has written the listing of the pieces that it read and of any that follow
-  over-lists : {pieces : List (List ℕ)} {written : List ℕ} {run : RunAt} → RunsTo start pieces written run → run .course .going ≡ Over
+  over-lists : {made : ℕ} {pieces : List (List ℕ)} {written : List ℕ} {run : RunAt} → RunsTo start made pieces written run → run .course .going ≡ Over
       → (others : List (List ℕ)) → none others ≡ run .course .last → written ≡ listing (joined (pieces ++ others))
   over-lists (ends {pieces = pieces} {text = written} {run = run} before was is) over others last =
       let ready = runs-ready before in
@@ -203,12 +203,12 @@ module _ (rooms : Rooms) (input lines : List ℕ) (zeroed : Zeroed rooms) (right
   over-lists (breaks before was) over others last = impossible (cc over)
 
   -- a run that is over and saw the end of its file has written the file's listing
-  pub whole-listed : {pieces : List (List ℕ)} {written : List ℕ} {run : RunAt} → RunsTo start pieces written run → run .course .going ≡ Over
+  pub whole-listed : {made : ℕ} {pieces : List (List ℕ)} {written : List ℕ} {run : RunAt} → RunsTo start made pieces written run → run .course .going ≡ Over
       → run .course .last ≡ true → written ≡ listing (joined pieces)
-  whole-listed {pieces} runs over last = over-lists runs over [] (sym last) ∙ ap (λ (all : List (List ℕ)). listing (joined all)) (append-nil pieces)
+  whole-listed {pieces = pieces} runs over last = over-lists runs over [] (sym last) ∙ ap (λ (all : List (List ℕ)). listing (joined all)) (append-nil pieces)
 
   -- one that is over before has written the file's listing too, whatever bytes it did not read
-  pub front-listed : {pieces : List (List ℕ)} {written : List ℕ} {run : RunAt} → RunsTo start pieces written run → run .course .going ≡ Over
+  pub front-listed : {made : ℕ} {pieces : List (List ℕ)} {written : List ℕ} {run : RunAt} → RunsTo start made pieces written run → run .course .going ≡ Over
       → run .course .last ≡ false → (rest : List ℕ) → written ≡ listing (joined pieces ++ rest)
-  front-listed {pieces} runs over last rest =
+  front-listed {pieces = pieces} runs over last rest =
       over-lists runs over (rest ∷ []) (sym last) ∙ ap listing (joined-behind pieces rest)

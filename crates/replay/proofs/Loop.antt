@@ -1,5 +1,5 @@
 -- A turn and what it asks for take a run on. Assumes nothing.
-use Prim.Native.Nat.{ℕ, _≤_, _<_}
+use Prim.Native.Nat.{ℕ, suc, _≤_, _<_}
 use mathlib.Core.Path.{_≡_, refl, sym, ap, subst, _∙_}
 use mathlib.Core.Bool.{Bool, true, false}
 use mathlib.Core.List.{List, [], _∷_, _++_}
@@ -125,10 +125,10 @@ module _ (run : RunAt) where
 
 -- ---- a turn, and what it asks for
 
-module _ {start : RunAt} (run : RunAt) (on : run .course .going ≡ On) (here : Reached start run) where
+module _ {start : RunAt} (run : RunAt) (on : run .course .going ≡ On) {made : ℕ} (here : Reached start made run) where
   -- it takes the run on
   reaches : (going : Going) → asksAfter run ≡ going → {next : Course} {more : List ℕ} → AfterServing going (turned run .course) (turned run .input) next more
-      → Reached start (servedSo run next more)
+      → Reached start (suc made) (servedSo run next more)
   reaches On e (same, kept) = rw (same, kept) (here .0, (here .1 .0, turns (here .1 .1) on e))
   reaches Full e (inl wrote, kept) = rw (wrote, kept) (here .0, (here .1 .0 ++ waitsAfter run, writes (here .1 .1) on e))
   reaches Full e (inr broke, kept) = rw (broke, kept) (here .0, (here .1 .0, breaks (here .1 .1) on))
@@ -165,12 +165,12 @@ serves-inside Unread course input next more (same, kept) inside = rw (same, kept
 serves-inside Unwritten course input next more (same, kept) inside = rw (same, kept) inside
 
 -- where a run is within its input, and how it was reached
-pub record Running (start run : RunAt) : Type 0 where
+pub record Running (start : RunAt) (made : ℕ) (run : RunAt) : Type 0 where
   pub inside : run .course .to ≤ length (run .input)
-  pub reached : Reached start run
+  pub reached : Reached start made run
 
 -- at first it is where it starts
-pub running-start : (session : Session) (rooms : Rooms) (input lines : List ℕ) → Running (runOf begun session rooms input lines) (runOf begun session rooms input lines)
+pub running-start : (session : Session) (rooms : Rooms) (input lines : List ℕ) → Running (runOf begun session rooms input lines) 0 (runOf begun session rooms input lines)
 running-start session rooms input lines = record { inside = omega arith; reached = ([], ([], starts)) }
 
 -- after a turn that waits there is room for more bytes
@@ -181,10 +181,10 @@ serves-room run after is inside long =
     (turned-inside run inside, λ short. omega (arith, waits-few run short, long, ap length (stays-by run (a-turn run) .1)))
 
 -- a turn and what it asks for take it on
-pub running-next : {start : RunAt} (run after : RunAt) → Running start run → goesOnTurning (run .course .going) ≡ true → after ≡ turned run → {next : Course} {more : List ℕ}
-    → AfterServing (after .course .going) (after .course) (after .input) next more → Running start (runOf next (after .session) (after .rooms) more (after .lines))
-running-next {start} run after running goes is {next} {more} =
-    subst (λ (one : RunAt). AfterServing (one .course .going) (one .course) (one .input) next more → Running start (runOf next (one .session) (one .rooms) more (one .lines))) (sym is)
+pub running-next : {start : RunAt} {made : ℕ} (run after : RunAt) → Running start made run → goesOnTurning (run .course .going) ≡ true → after ≡ turned run → {next : Course} {more : List ℕ}
+    → AfterServing (after .course .going) (after .course) (after .input) next more → Running start (suc made) (runOf next (after .session) (after .rooms) more (after .lines))
+running-next {start} {made} run after running goes is {next} {more} =
+    subst (λ (one : RunAt). AfterServing (one .course .going) (one .course) (one .input) next more → Running start (suc made) (runOf next (one .session) (one .rooms) more (one .lines))) (sym is)
     (λ serving.
     record {
       inside = serves-inside (asksAfter run) (turned run .course) (turned run .input) next more serving (turned-inside run (running .inside));

@@ -1,9 +1,11 @@
 -- Runs of the program: turns, and between them what is written and what is read.
-use Prim.Native.Nat.{ℕ, _+_}
+use Prim.Native.Nat.{ℕ, suc, _+_, _-_, _^_}
 use mathlib.Core.Path.{_≡_}
+use mathlib.Core.Bool.{false}
+use mathlib.Core.Logic.{_⊎_}
 use mathlib.Core.List.{List, [], _∷_, _++_}
 use lib.ListN.{length, take}
-use Rattle.replay.specs.Run.{RunAt, runOf, unreadIn, textWaiting, turned, goingSo, writtenOut, takenIn, nothingRead}
+use Rattle.replay.specs.Run.{RunAt, runOf, unreadIn, textWaiting, turned, goesOnTurning, goingSo, writtenOut, takenIn, nothingRead}
 use Rattle.replay.specs.declared.course.Going.{Going}
 use Rattle.replay.specs.declared.course.Going.the-variants.{On, Full, Read, Over, Unread, Unwritten}
 use Rattle.replay.specs.declared.course.Course.{Course}
@@ -28,35 +30,39 @@ servedSo run course input = runOf course (turned run .session) (turned run .room
 abbrev pub writtenAfter : RunAt → Going → Course
 writtenAfter run going = writtenOut (turned run .course) going
 
--- from its start a run has read these pieces, one after another, and written this text, and is here
-pub data RunsTo (start : RunAt) : List (List ℕ) → List ℕ → RunAt → Type 0 where
+-- from its start, with so many turns, a run has read these pieces, one after another, and written this text, and is here
+pub data RunsTo (start : RunAt) : ℕ → List (List ℕ) → List ℕ → RunAt → Type 0 where
   -- nothing is done yet
-  starts : RunsTo start [] [] start
+  starts : RunsTo start 0 [] [] start
   -- a turn goes on
-  turns : {pieces : List (List ℕ)} {text : List ℕ} {run : RunAt} → RunsTo start pieces text run → run .course .going ≡ On
-      → asksAfter run ≡ On → RunsTo start pieces text (servedSo run (turned run .course) (turned run .input))
+  turns : {made : ℕ} {pieces : List (List ℕ)} {text : List ℕ} {run : RunAt} → RunsTo start made pieces text run → run .course .going ≡ On
+      → asksAfter run ≡ On → RunsTo start (suc made) pieces text (servedSo run (turned run .course) (turned run .input))
   -- a turn finds no room: the text that waits is written
-  writes : {pieces : List (List ℕ)} {text : List ℕ} {run : RunAt} → RunsTo start pieces text run → run .course .going ≡ On
-      → asksAfter run ≡ Full → RunsTo start pieces (text ++ waitsAfter run) (servedSo run (writtenAfter run On) (turned run .input))
+  writes : {made : ℕ} {pieces : List (List ℕ)} {text : List ℕ} {run : RunAt} → RunsTo start made pieces text run → run .course .going ≡ On
+      → asksAfter run ≡ Full → RunsTo start (suc made) pieces (text ++ waitsAfter run) (servedSo run (writtenAfter run On) (turned run .input))
   -- a turn waits for bytes: the text is written, and a piece stands behind the unread bytes; where it is empty, the file ends there
-  reads : {pieces : List (List ℕ)} {text : List ℕ} {run : RunAt} → RunsTo start pieces text run → run .course .going ≡ On
+  reads : {made : ℕ} {pieces : List (List ℕ)} {text : List ℕ} {run : RunAt} → RunsTo start made pieces text run → run .course .going ≡ On
       → asksAfter run ≡ Read → {input : List ℕ} (piece : List ℕ) → take (length (unreadAfter run) + length piece) input ≡ unreadAfter run ++ piece
-      → RunsTo start (pieces ++ piece ∷ []) (text ++ waitsAfter run) (servedSo run (takenIn (writtenAfter run Read) (length (unreadAfter run)) (length piece)) input)
+      → RunsTo start (suc made) (pieces ++ piece ∷ []) (text ++ waitsAfter run) (servedSo run (takenIn (writtenAfter run Read) (length (unreadAfter run)) (length piece)) input)
   -- a turn waits for bytes: the text is written, and the read is interrupted
-  retries : {pieces : List (List ℕ)} {text : List ℕ} {run : RunAt} → RunsTo start pieces text run → run .course .going ≡ On
+  retries : {made : ℕ} {pieces : List (List ℕ)} {text : List ℕ} {run : RunAt} → RunsTo start made pieces text run → run .course .going ≡ On
       → asksAfter run ≡ Read → {input : List ℕ} → take (length (unreadAfter run)) input ≡ unreadAfter run
-      → RunsTo start pieces (text ++ waitsAfter run) (servedSo run (nothingRead (writtenAfter run Read) (length (unreadAfter run)) On) input)
+      → RunsTo start (suc made) pieces (text ++ waitsAfter run) (servedSo run (nothingRead (writtenAfter run Read) (length (unreadAfter run)) On) input)
   -- a turn waits for bytes: the text is written, and the read fails: no more is read
-  fails : {pieces : List (List ℕ)} {text : List ℕ} {run : RunAt} → RunsTo start pieces text run → run .course .going ≡ On
+  fails : {made : ℕ} {pieces : List (List ℕ)} {text : List ℕ} {run : RunAt} → RunsTo start made pieces text run → run .course .going ≡ On
       → asksAfter run ≡ Read → {input : List ℕ} → take (length (unreadAfter run)) input ≡ unreadAfter run
-      → RunsTo start pieces (text ++ waitsAfter run) (servedSo run (nothingRead (writtenAfter run Read) (length (unreadAfter run)) Unread) input)
+      → RunsTo start (suc made) pieces (text ++ waitsAfter run) (servedSo run (nothingRead (writtenAfter run Read) (length (unreadAfter run)) Unread) input)
   -- a turn is the last: the rest of the text is written
-  ends : {pieces : List (List ℕ)} {text : List ℕ} {run : RunAt} → RunsTo start pieces text run → run .course .going ≡ On
-      → asksAfter run ≡ Over → RunsTo start pieces (text ++ waitsAfter run) (servedSo run (writtenAfter run Over) (turned run .input))
+  ends : {made : ℕ} {pieces : List (List ℕ)} {text : List ℕ} {run : RunAt} → RunsTo start made pieces text run → run .course .going ≡ On
+      → asksAfter run ≡ Over → RunsTo start (suc made) pieces (text ++ waitsAfter run) (servedSo run (writtenAfter run Over) (turned run .input))
   -- the text that waits can't all be written: no more is
-  breaks : {pieces : List (List ℕ)} {text : List ℕ} {run : RunAt} → RunsTo start pieces text run → run .course .going ≡ On
-      → RunsTo start pieces text (servedSo run (goingSo (turned run .course) Unwritten) (turned run .input))
+  breaks : {made : ℕ} {pieces : List (List ℕ)} {text : List ℕ} {run : RunAt} → RunsTo start made pieces text run → run .course .going ≡ On
+      → RunsTo start (suc made) pieces text (servedSo run (goingSo (turned run .course) Unwritten) (turned run .input))
 
--- there are such pieces and such a text
-abbrev pub Reached : RunAt → RunAt → Type 0
-Reached start run = (pieces : List (List ℕ)) × ((text : List ℕ) × RunsTo start pieces text run)
+-- with so many turns there are such pieces and such a text
+abbrev pub Reached : RunAt → ℕ → RunAt → Type 0
+Reached start made run = (pieces : List (List ℕ)) × ((text : List ℕ) × RunsTo start made pieces text run)
+
+-- a run goes on until no other turn can be made, or it has made as many as a count of 64 bits has
+abbrev pub RunsOut : RunAt → RunAt → Type 0
+RunsOut start run = (made : ℕ) × (Reached start made run × ((goesOnTurning (run .course .going) ≡ false) ⊎ (made ≡ 2 ^ 64 - 1)))

@@ -6,7 +6,7 @@ ghost use Rattle.session.specs.Held.{nothingHeld};
 ghost use Rattle.session.specs.Lent.{roomsOf, sessionOf};
 ghost use Rattle.replay.specs.Run.{begun, runOf, unreadIn};
 ghost use Rattle.replay.specs.Inner.{AfterBoth, AfterServing};
-ghost use Rattle.replay.specs.Runs.{Reached};
+ghost use Rattle.replay.specs.Runs.{RunsOut};
 ghost use Rattle.replay.specs.declared.course.Going.the-variants.{Read};
 use crate::course::Course;
 use crate::course::Going;
@@ -57,7 +57,7 @@ fn run_turns(
     output: &mut [u32],
 ) -> Turned
     requires { ⌜ 65538 ≤ length (now input) ⌝ }
-    ensures { λ r. ⌜ Reached (runOf begun (sessionOf nothingHeld) (roomsOf (now (store .entry)) (now (table .entry)) (now (normal .entry)) (now (overlay .entry)) (now (output .entry))) (now (input .entry)) (now (lines .entry))) (runOf (r .course) (r .session) (roomsOf (now (store .exit)) (now (table .exit)) (now (normal .exit)) (now (overlay .exit)) (now (output .exit))) (now (input .exit)) (now (lines .exit))) ⌝ }
+    ensures { λ r. ⌜ RunsOut (runOf begun (sessionOf nothingHeld) (roomsOf (now (store .entry)) (now (table .entry)) (now (normal .entry)) (now (overlay .entry)) (now (output .entry))) (now (input .entry)) (now (lines .entry))) (runOf (r .course) (r .session) (roomsOf (now (store .exit)) (now (table .exit)) (now (normal .exit)) (now (overlay .exit)) (now (output .exit))) (now (input .exit)) (now (lines .exit))) ⌝ }
 {
     let mut session = Session::new();
     let mut course = Course::start();

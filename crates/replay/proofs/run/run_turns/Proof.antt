@@ -1,5 +1,7 @@
 -- `replay::run::run_turns` meets its contract: each turn takes the run on, and the measure is the number of turns left. Assumes nothing.
+use Prim.Native.Nat.{ℕ, suc, _+_, _-_, _^_}
 use mathlib.Core.Path.{_≡_, refl, sym, _∙_}
+use mathlib.Core.Logic.{inl, inr}
 use native.Mathlib.Omega.{arith}
 use borrow.Author.Needs.{needs}
 use lib.ListN.{length}
@@ -20,7 +22,7 @@ Inv-loop file input₀ lines₀ store₀ table₀ normal₀ overlay₀ output₀
     × (length normal ≡ length normal₀)
     × (length overlay ≡ length overlay₀)
     × (length output ≡ length output₀)
-    × Running (runOf begun (sessionOf nothingHeld) (roomsOf store₀ table₀ normal₀ overlay₀ output₀) input₀ lines₀) (runOf course session (roomsOf store table normal overlay output) input lines)
+    × ((made : ℕ) × ((made + turns ≡ 2 ^ 64 - 1) × Running (runOf begun (sessionOf nothingHeld) (roomsOf store₀ table₀ normal₀ overlay₀ output₀) input₀ lines₀) made (runOf course session (roomsOf store table normal overlay output) input lines)))
 
 -- how many turns are left
 abbrev μ-loop : tie.MeasureT-loop
@@ -34,19 +36,19 @@ start-requires c κs = search needs
 
 loop-holds : tie.Need-loop-holds Inv-loop μ-loop
 loop-holds c =
-    (refl, refl, refl, refl, refl, refl, refl, rw (c .start .ensures, c .before .new .ensures) (running-start _ _ _ _))
+    (refl, refl, refl, refl, refl, refl, refl, (0, (refl, rw (c .start .ensures, c .before .new .ensures) (running-start _ _ _ _))))
 
 goes-on-requires : tie.Need-goes-on-requires Inv-loop μ-loop
 goes-on-requires c κs = search needs
 
 turn-requires : tie.Need-turn-requires Inv-loop μ-loop
-turn-requires c κs = c .before .before .before .before .before .before .before .before .before .before .loop .inv .7 .inside
+turn-requires c κs = c .before .before .before .before .before .before .before .before .before .before .loop .inv .7 .1 .1 .inside
 
 served-requires : tie.Need-served-requires Inv-loop μ-loop
 served-requires c κs =
     let loop = c .before .before .before .before .before .before .before .before .before .before .before .before .before .before .before .before .before .before .before .before .before .before .before .before .before .before .before .loop in
     let run = runOf (loop .course) (loop .session) (roomsOf (loop .store) (loop .table) (loop .normal) (loop .overlay) (loop .output)) (loop .input) (loop .lines) in
-    serves-room run _ (c .before .before .before .before .before .before .before .before .before .before .before .before .before .before .before .before .turn .ensures) (loop .inv .7 .inside) (omega (arith, loop .inv .0, c .before .before .before .before .before .before .before .before .before .before .before .before .before .before .before .before .before .before .before .before .before .before .before .before .before .before .before .before .before .before .before .before .before .before .before .before .before .pre))
+    serves-room run _ (c .before .before .before .before .before .before .before .before .before .before .before .before .before .before .before .before .turn .ensures) (loop .inv .7 .1 .1 .inside) (omega (arith, loop .inv .0, c .before .before .before .before .before .before .before .before .before .before .before .before .before .before .before .before .before .before .before .before .before .before .before .before .before .before .before .before .before .before .before .before .before .before .before .before .before .pre))
 
 sub-turns : tie.Need-sub-turns Inv-loop μ-loop
 sub-turns c = omega (arith, c .before .before .before .before .before .before .before .before .before .before .before .before .before .before .before .before .before .before .before .before .before .before .before .before .before .before .before .before .before .loop-test .taken)
@@ -67,7 +69,7 @@ loop-again c =
       turn .kept .1 .1 .1 .1 .1 .1 .0 ∙ loop .inv .4,
       turn .kept .1 .1 .1 .1 .1 .1 .1 .0 ∙ loop .inv .5,
       turn .kept .1 .1 .1 .1 .1 .1 .1 .1 .0 ∙ loop .inv .6,
-      running-next run _ (loop .inv .7) (sym (c .before .before .before .before .before .before .before .before .before .before .before .before .before .before .before .before .before .before .before .before .before .before .before .before .before .before .before .before .goes-on .ensures) ∙ c .before .before .before .before .before .before .before .before .before .before .before .before .before .before .before .before .before .before .before .before .before .before .before .before .before .before .before .if1 .taken) (turn .ensures) (served .ensures),
+      (suc (loop .inv .7 .0), (omega (arith, loop .inv .7 .1 .0, c .before .before .before .before .before .before .before .before .before .before .before .before .before .before .before .before .before .before .before .before .before .before .before .before .before .before .before .before .before .loop-test .taken), running-next run _ (loop .inv .7 .1 .1) (sym (c .before .before .before .before .before .before .before .before .before .before .before .before .before .before .before .before .before .before .before .before .before .before .before .before .before .before .before .before .goes-on .ensures) ∙ c .before .before .before .before .before .before .before .before .before .before .before .before .before .before .before .before .before .before .before .before .before .before .before .before .before .before .before .if1 .taken) (turn .ensures) (served .ensures))),
     )
 
 same-length : tie.Need-same-length Inv-loop μ-loop
@@ -92,7 +94,9 @@ same-length-7 : tie.Need-same-length-7 Inv-loop μ-loop
 same-length-7 c = search needs
 
 returns : tie.Need-returns Inv-loop μ-loop
-returns c = c .before .before .before .loop .inv .7 .reached
+returns c =
+    let made = c .before .before .before .loop .inv .7 in
+    (made .0, (made .1 .1 .reached, inl (sym (c .before .goes-on .ensures) ∙ c .if1 .left)))
 
 same-length-8 : tie.Need-same-length-8 Inv-loop μ-loop
 same-length-8 c = search needs
@@ -116,7 +120,9 @@ same-length-14 : tie.Need-same-length-14 Inv-loop μ-loop
 same-length-14 c = search needs
 
 returns-2 : tie.Need-returns-2 Inv-loop μ-loop
-returns-2 c = c .before .loop .inv .7 .reached
+returns-2 c =
+    let made = c .before .loop .inv .7 in
+    (made .0, (made .1 .1 .reached, inr (omega (arith, made .1 .0, c .loop-test .left))))
 
 pub run-turns-spec : {M : Type 1} → statement M
 run-turns-spec =
