@@ -4,6 +4,9 @@ ghost use mathlib.Core.Path.{_≡_};
 ghost use lib.ListN.{length};
 ghost use Rattle.session.specs.Held.{nothingHeld};
 ghost use Rattle.session.specs.Lent.{roomsOf, sessionOf};
+ghost use Rattle.session_listing.specs.Room.{roomOf};
+ghost use Rattle.session_rooms.specs.Rooms.{longestLine};
+ghost use Rattle.session_files.specs.Calls.{Zeroed, RightLengths};
 ghost use Rattle.replay.specs.Run.{begun, runOf, unreadIn};
 ghost use Rattle.replay.specs.Inner.{AfterBoth, AfterServing};
 ghost use Rattle.replay.specs.Runs.{RunsOut};
@@ -56,7 +59,7 @@ fn run_turns(
     overlay: &mut [u8],
     output: &mut [u32],
 ) -> Turned
-    requires { ⌜ 65538 ≤ length (now input) ⌝ }
+    requires { ⌜ (65538 ≤ length (now input)) × (roomOf longestLine ≤ length (now lines)) × Zeroed (roomsOf (now store) (now table) (now normal) (now overlay) (now output)) × RightLengths (roomsOf (now store) (now table) (now normal) (now overlay) (now output)) ⌝ }
     ensures { λ r. ⌜ RunsOut (runOf begun (sessionOf nothingHeld) (roomsOf (now (store .entry)) (now (table .entry)) (now (normal .entry)) (now (overlay .entry)) (now (output .entry))) (now (input .entry)) (now (lines .entry))) (runOf (r .course) (r .session) (roomsOf (now (store .exit)) (now (table .exit)) (now (normal .exit)) (now (overlay .exit)) (now (output .exit))) (now (input .exit)) (now (lines .exit))) ⌝ }
 {
     let mut session = Session::new();

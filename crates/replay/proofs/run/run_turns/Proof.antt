@@ -48,7 +48,7 @@ served-requires : tie.Need-served-requires Inv-loop μ-loop
 served-requires c κs =
     let loop = c .before .before .before .before .before .before .before .before .before .before .before .before .before .before .before .before .before .before .before .before .before .before .before .before .before .before .before .loop in
     let run = runOf (loop .course) (loop .session) (roomsOf (loop .store) (loop .table) (loop .normal) (loop .overlay) (loop .output)) (loop .input) (loop .lines) in
-    serves-room run _ (c .before .before .before .before .before .before .before .before .before .before .before .before .before .before .before .before .turn .ensures) (loop .inv .7 .1 .1 .inside) (omega (arith, loop .inv .0, c .before .before .before .before .before .before .before .before .before .before .before .before .before .before .before .before .before .before .before .before .before .before .before .before .before .before .before .before .before .before .before .before .before .before .before .before .before .pre))
+    serves-room run _ (c .before .before .before .before .before .before .before .before .before .before .before .before .before .before .before .before .turn .ensures) (loop .inv .7 .1 .1 .inside) (omega (arith, loop .inv .0, c .before .before .before .before .before .before .before .before .before .before .before .before .before .before .before .before .before .before .before .before .before .before .before .before .before .before .before .before .before .before .before .before .before .before .before .before .before .pre .0))
 
 sub-turns : tie.Need-sub-turns Inv-loop μ-loop
 sub-turns c = omega (arith, c .before .before .before .before .before .before .before .before .before .before .before .before .before .before .before .before .before .before .before .before .before .before .before .before .before .before .before .before .before .loop-test .taken)
