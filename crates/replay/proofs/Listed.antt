@@ -21,7 +21,7 @@ use Rattle.session_files.proofs.Cuts.{cut-lists}
 use Rattle.session_files.proofs.Calls.{first-held}
 use Rattle.session_files.proofs.Answered.{Ready, first-ready}
 use Rattle.replay.specs.Run.{RunAt, runOf, begun, goingAfter, turned}
-use Rattle.replay.specs.Runs.{asksAfter, unreadAfter, waitsAfter, RunsTo, starts, turns, writes, reads, retries, fails, ends, breaks}
+use Rattle.replay.specs.Runs.{WroteListing, asksAfter, unreadAfter, waitsAfter, RunsTo, starts, turns, writes, reads, retries, fails, ends, breaks}
 use Rattle.replay.specs.declared.course.Going.the-variants.{On, Full, Read, Over}
 use Rattle.replay.proofs.Taken.{heldBy, unreadBy, waitsBy, stepBy, Left-by, stepping, unmoved, turn-leaves, turn-ready}
 
@@ -212,3 +212,7 @@ module _ (rooms : Rooms) (input lines : List ℕ) (zeroed : Zeroed rooms) (right
       → run .course .last ≡ false → (rest : List ℕ) → written ≡ listing (joined pieces ++ rest)
   front-listed {pieces = pieces} runs over last rest =
       over-lists runs over (rest ∷ []) (sym last) ∙ ap listing (joined-behind pieces rest)
+
+  -- so every run that is over has
+  pub wrote-listing : {made : ℕ} {pieces : List (List ℕ)} {written : List ℕ} {run : RunAt} → RunsTo start made pieces written run → WroteListing run pieces written
+  wrote-listing runs over = (whole-listed runs over, front-listed runs over)

@@ -1,10 +1,12 @@
 -- Runs of the program: turns, and between them what is written and what is read.
 use Prim.Native.Nat.{ℕ, suc, _+_, _-_, _^_}
 use mathlib.Core.Path.{_≡_}
-use mathlib.Core.Bool.{false}
+use mathlib.Core.Bool.{true, false}
 use mathlib.Core.Logic.{_⊎_}
 use mathlib.Core.List.{List, [], _∷_, _++_}
 use lib.ListN.{length, take}
+use Rattle.rules.specs.Lists.{joined}
+use Rattle.session.specs.Listing.{listing}
 use Rattle.replay.specs.Run.{RunAt, runOf, unreadIn, textWaiting, turned, goesOnTurning, goingSo, writtenOut, takenIn, nothingRead}
 use Rattle.replay.specs.declared.course.Going.{Going}
 use Rattle.replay.specs.declared.course.Going.the-variants.{On, Full, Read, Over, Unread, Unwritten}
@@ -63,6 +65,17 @@ pub data RunsTo (start : RunAt) : ℕ → List (List ℕ) → List ℕ → RunAt
 abbrev pub Reached : RunAt → ℕ → RunAt → Type 0
 Reached start made run = (pieces : List (List ℕ)) × ((text : List ℕ) × RunsTo start made pieces text run)
 
--- a run goes on until no other turn can be made, or it has made as many as a count of 64 bits has
-abbrev pub RunsOut : RunAt → RunAt → Type 0
-RunsOut start run = (made : ℕ) × (Reached start made run × ((goesOnTurning (run .course .going) ≡ false) ⊎ (made ≡ 2 ^ 64 - 1)))
+-- a run that is over has written the listing of what it read, whatever bytes follow where it did not see the end of its file (CHIP 9.7)
+abbrev pub WroteListing : RunAt → List (List ℕ) → List ℕ → Type 0
+WroteListing run pieces text =
+    run .course .going ≡ Over
+    → (run .course .last ≡ true → text ≡ listing (joined pieces)) × (run .course .last ≡ false → (rest : List ℕ) → text ≡ listing (joined pieces ++ rest))
+
+-- a run goes on until no other turn can be made, or it has made as many as a number of 64 bits counts; where it is over, the listing is written
+pub record RunsOut (start run : RunAt) : Type 0 where
+  pub made : ℕ
+  pub pieces : List (List ℕ)
+  pub text : List ℕ
+  pub runs : RunsTo start made pieces text run
+  pub wrote : WroteListing run pieces text
+  pub out : (goesOnTurning (run .course .going) ≡ false) ⊎ (made ≡ 2 ^ 64 - 1)

@@ -8,6 +8,7 @@ use lib.ListN.{length}
 use Rattle.session.specs.Held.{nothingHeld}
 use Rattle.session.specs.Lent.{roomsOf, sessionOf}
 use Rattle.replay.specs.Run.{begun, runOf}
+use Rattle.replay.proofs.Listed.{wrote-listing}
 use Rattle.replay.proofs.Loop.{Running, running-start, running-next, serves-room}
 use Rattle.replay.proofs.run.run_turns.Statement.{statement}
 use Rattle.replay.proofs.run.run_turns.Tie as tie
@@ -96,7 +97,16 @@ same-length-7 c = search needs
 returns : tie.Need-returns Inv-loop μ-loop
 returns c =
     let made = c .before .before .before .loop .inv .7 in
-    (made .0, (made .1 .1 .reached, inl (sym (c .before .goes-on .ensures) ∙ c .if1 .left)))
+    let given = c .before .before .before .before .before .before .before .before .before .before .before .before .before .pre in
+    let reached = made .1 .1 .reached in
+    record {
+      made = made .0;
+      pieces = reached .0;
+      text = reached .1 .0;
+      runs = reached .1 .1;
+      wrote = wrote-listing _ _ _ (given .2) (given .3) (reached .1 .1);
+      out = inl (sym (c .before .goes-on .ensures) ∙ c .if1 .left);
+    }
 
 same-length-8 : tie.Need-same-length-8 Inv-loop μ-loop
 same-length-8 c = search needs
@@ -122,7 +132,16 @@ same-length-14 c = search needs
 returns-2 : tie.Need-returns-2 Inv-loop μ-loop
 returns-2 c =
     let made = c .before .loop .inv .7 in
-    (made .0, (made .1 .1 .reached, inr (omega (arith, made .1 .0, c .loop-test .left))))
+    let given = c .before .before .before .before .before .before .before .before .before .before .before .pre in
+    let reached = made .1 .1 .reached in
+    record {
+      made = made .0;
+      pieces = reached .0;
+      text = reached .1 .0;
+      runs = reached .1 .1;
+      wrote = wrote-listing _ _ _ (given .2) (given .3) (reached .1 .1);
+      out = inr (omega (arith, made .1 .0, c .loop-test .left));
+    }
 
 pub run-turns-spec : {M : Type 1} → statement M
 run-turns-spec =
