@@ -11,3 +11,4 @@ pub mod PutShown
 pub mod WriteThenRead
 pub mod RuleInWords
 pub mod Unique
+pub mod DotInWords
