@@ -104,8 +104,8 @@ enum {
 };
 
 /* The fields of words.
-   Control word 0 has switches (CHIP 2.3): overlay (bit 0), window IDs (1), cursor (2), cross-hair (3), depth 32 in place of 16 (4). Each other has a field in
-   bits 11..0 and one in 27..16, of word 7 in 10..0 and 26..16: 1 total width and total lines, each less 1; on and off of 2 horizontal sync, 3 vertical sync,
+   Control word 0 has switches (CHIP 2.3): overlay (bit 0), window IDs (1), cursor (2), cross-hair (3), depth 32 in place of 16 (4). Each other but 9 has a field
+   in bits 11..0 and one in 27..16, of word 7 in 10..0 and 26..16: 1 total width and total lines, each less 1; on and off of 2 horizontal sync, 3 vertical sync,
    4 horizontal blank, 5 vertical blank; 6 x and y of the active origin; 7 active width and height, each less 1; 8 x and y of the cursor; 10, read only, x and y
    of the beam. Word 9, read only, is a number: the room in the queue, 64 less those that wait.
    A window entry (CHIP 5.1) has the buffer in bit 0, the format in 3..1, the bank in 8..4, bypass of gamma in 9, overlay allowed in 10, and 0 in 12..11.
@@ -265,7 +265,7 @@ bulitampaw_dotted bulitampaw_dot(bulitampaw_state state, uint32_t *store, size_t
 bulitampaw_dotted bulitampaw_dots(bulitampaw_state state, uint32_t *store, size_t store_length, uint32_t count);
 
 /* Draws line y: the first words of the output, as many as the active width, become its colours, and the words past them stay (CHIP 6.8).
-   Each colour has red in bits 23..16, green in 15..8, blue in 7..0, and 0 above. Neither state nor store change.
+   Each colour has red in bits 23..16, green in 15..8, blue in 7..0, and 0 above. Neither state nor store changes.
    Where window IDs are off the table isn't looked at; else it has 65,536 bytes at most. The normal row has exactly 2 bytes a pixel at depth 16, 4 at depth 32,
    big-endian. Where overlay is off its row isn't looked at; else it has exactly one byte a pixel. The output has at least one word a pixel (CHIP 8.3).
    Refused by 11, 10, 6, 5 at the lowest place, 7, and then by 8 or 9 at the first pixel from the left that has either fault. What the answer rests on is
@@ -278,14 +278,15 @@ bulitampaw_drawn bulitampaw_line(bulitampaw_state state, uint32_t y, const uint3
 bulitampaw_session bulitampaw_fresh_session(void);
 
 /* Runs the record at a place of a session file's bytes, on the lent store, table, rows and output, and puts its text, without a closing zero byte, at the
-   front of the text. The next step goes on at the place that comes back. A last other than 0 says that the file ends with these bytes;
-   behind them there are none, and a place past their end is one where nothing stands. However the bytes of a file are cut, its texts are the same (CHIP 9.8).
+   front of the text. The next step goes on at the place that comes back. A last other than 0 says that the file ends with these bytes. At a place past
+   their end nothing stands. However the bytes of a file are cut, its texts are the same (CHIP 9.8).
    A record that is not whole is waited for, unless the file ends: the step then comes to BULITAMPAW_STATUS_MORE and did nothing. Lend the bytes from the same
    place on again, with more behind them, or with last set. Only 12 is told of such a record at once; 14 and 13 may depend on what follows (CHIP 9.4).
    Store, table, rows and output have exactly the lengths above, the text at least its own. The call is refused by 11 where the session says that more of
    table or rows is there than their rooms hold, then by 5 at the lowest place. That is no line of the listing. What a record is refused for, 11 for a
    bad state of the chip too, is listed: it stands in the text and in the answer, and the run goes on.
-   A run is over with BULITAMPAW_STATUS_END, BULITAMPAW_STATUS_STOPPED and a refused call. */
+   A run is over with BULITAMPAW_STATUS_END, BULITAMPAW_STATUS_STOPPED and a refused call. A step does not remember that: whoever steps on reads what stands
+   there as a record. Where no record was run the place comes back as it was; after the end record it is the place behind it. */
 bulitampaw_stepped bulitampaw_step(bulitampaw_session session, const uint8_t *bytes, size_t length, size_t place, uint32_t last,
     uint32_t *store, size_t store_length, uint8_t *table, size_t table_length, uint8_t *normal, size_t normal_length,
     uint8_t *overlay, size_t overlay_length, uint32_t *output, size_t output_length, uint8_t *text, size_t text_length);
@@ -334,7 +335,8 @@ static inline const char *bulitampaw_status_name(uint32_t status)
     }
 }
 
-/* A control word of two fields, one from bit 0 and one from bit 16. Each is below 65,536; if one is too wide for its field, the write is refused by 3. */
+/* A control word of two fields, one from bit 0 and one from bit 16. Each has to be below 65,536: bits above are lost or fall into the other field. One that is
+   too wide for its field is refused by 3 when it is written. */
 static inline uint32_t bulitampaw_two_fields(uint32_t low, uint32_t high)
 {
     return low | high << 16;

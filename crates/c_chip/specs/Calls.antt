@@ -24,7 +24,7 @@ use Rattle.c_chip.specs.declared.calls.DrawnNumbers.{DrawnNumbers}
 abbrev pub writeAnswer : State → Outcome Numbered (Unit {0}) → WrittenNumbers
 writeAnswer state answer = record { state = state; refusal = refusalOf answer }
 
--- what a write answers, and the words of the store after it (CHIP 10.3)
+-- what a write answers, and the words of the store after it (CHIP 10.4)
 unfoldable pub writtenInNumbers : Chip → ℕ → ℕ → WrittenNumbers × List ℕ
 writtenInNumbers chip address value =
     let all = written chip address value in
@@ -34,7 +34,7 @@ writtenInNumbers chip address value =
 abbrev pub readAnswer : State → Outcome Numbered ℕ → ReadBackNumbers
 readAnswer state answer = record { state = state; refusal = refusalOf answer; word = wordRead answer }
 
--- what a read answers; it changes no word of the store (CHIP 10.3)
+-- what a read answers; it changes no word of the store (CHIP 10.4)
 unfoldable pub readInNumbers : Chip → ℕ → ReadBackNumbers
 readInNumbers chip address = let all = readBack chip address in readAnswer (all .0 .0) (all .1)
 
@@ -46,11 +46,11 @@ dotsAnswer state answer = record { state = state; refusal = refusalOf answer; si
 abbrev pub dotsInNumbers : Chip × Outcome Numbered Report → DottedNumbers × List ℕ
 dotsInNumbers all = (dotsAnswer (all .0 .0) (all .1), all .0 .1)
 
--- what a dot answers, and the words of the store after it (CHIP 10.3)
+-- what a dot answers, and the words of the store after it (CHIP 10.4)
 unfoldable pub dottedInNumbers : Chip → DottedNumbers × List ℕ
 dottedInNumbers chip = dotsInNumbers (dotted chip)
 
--- what a run of dots answers, and the words of the store after it (CHIP 10.3)
+-- what a run of dots answers, and the words of the store after it (CHIP 10.4)
 unfoldable pub ranInNumbers : Chip → ℕ → DottedNumbers × List ℕ
 ranInNumbers chip count = dotsInNumbers (ran chip count)
 
@@ -58,6 +58,6 @@ ranInNumbers chip count = dotsInNumbers (ran chip count)
 abbrev pub lineAnswer : State → Outcome Numbered (Unit {0}) → DrawnNumbers
 lineAnswer state answer = record { state = state; refusal = refusalOf answer }
 
--- what a line answers, and the words of the output after it (CHIP 10.3)
+-- what a line answers, and the words of the output after it (CHIP 10.4)
 unfoldable pub drawnInNumbers : Request → Lent → List ℕ → DrawnNumbers × List ℕ
 drawnInNumbers request lent output = let all = drawn request lent output in (lineAnswer (all .0 .0) (all .1), all .0 .1)

@@ -1,1 +1,2 @@
+pub mod InNumbers
 pub mod Unique

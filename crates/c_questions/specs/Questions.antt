@@ -12,6 +12,6 @@ entryDefined entry depth = yesNo (isDefined (decoded (entry % 2 ^ 13) depth))
 unfoldable pub signalHolds : ℕ → ℕ → ℕ → ℕ
 signalHolds on off p = yesNo (inWindow on off p)
 
--- the version of the header that the library goes with (CHIP 10.3)
+-- the version of the header that the library goes with
 abbrev pub interfaceVersion : ℕ
 interfaceVersion = 1

@@ -47,7 +47,7 @@ entryRefusal (entry.saysAt x y) = nothing
 entryRefusal (entry.saysLine y width) = nothing
 entryRefusal (entry.saysRefused refusal) = refusedBy refusal
 
--- 0 where the call is refused, 1 for an entry, 2 for the end, 3 for a wait, 4 for a fault of the file (CHIP 9.7)
+-- 0 where the call is refused, 1 for an entry, 2 for the end, 3 for a wait, 4 for a fault of the file
 abbrev pub statusInNumbers : Outcome Numbered Status → StatusNumbers
 statusInNumbers (refused refusal) = record { status = 0; refusal = refusedBy refusal }
 statusInNumbers (ok (listed entry)) = record { status = 1; refusal = entryRefusal entry }

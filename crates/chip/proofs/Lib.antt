@@ -10,5 +10,7 @@ pub mod Accepted
 pub mod PutShown
 pub mod WriteThenRead
 pub mod RuleInWords
-pub mod Unique
 pub mod DotInWords
+pub mod Orders
+pub mod Taken
+pub mod Unique

@@ -14,6 +14,6 @@ use Rattle.chip.specs.declared.state.State.{State}
 abbrev pub Chip : Type 0
 Chip = State × List ℕ
 
--- the faults of a state and a store of so many words: a bad state is 11, then another length is 5 (CHIP 8.2, 8.3)
+-- the faults of a state and a store of so many words: a bad state is 11, then another length is 5 (CHIP 8.2, 8.3, 8.4)
 abbrev pub callFaults : State → ℕ → List Fault
 callFaults state words = fault BadState (not (goodState state)) ∷ fault StoreLength (not (eqb words storeLength)) ∷ []

@@ -38,12 +38,12 @@ addressFaults noRoom address value = registerFaults noRoom (named address) (addr
 abbrev pub writeFaults : Chip → ℕ → ℕ → List Fault
 writeFaults chip address value = callFaults (chip .0) (length (chip .1)) ++ addressFaults (full (chip .0 .queue)) address value
 
--- a value at its register's place: a word of the store, or a control word, which is the state's (CHIP 8.1)
+-- a value at its register's place: a word of the store, or a control word, which is the state's (CHIP 2.5, 2.8)
 abbrev pub putAt : Chip → Register → ℕ → StorePlace → Chip
 putAt chip register value (At index) = (chip .0, set (chip .1) index value)
 putAt chip register value Nowhere = (withWord (chip .0) (register .word) value, chip .1)
 
--- a write joins the queue where it waits, else its value goes to its place (CHIP 2.8, 3.6, 8.1)
+-- a write joins the queue where it waits, else its value goes to its place (CHIP 2.8, 3.6)
 abbrev pub put : Chip → Register → ℕ → Chip
 put chip register value =
     cond (waits register) (withQueue (chip .0) (pushed (chip .0 .queue) (writeTo register value)), chip .1)

@@ -28,6 +28,6 @@ keptBy (Lowest width) word value = bits value 0 width
 abbrev pub keptOf : Register → ℕ → ℕ
 keptOf register value = keptBy (rowOf (register .block) .kept) (register .word) value
 
--- whether a value has no bits but those that a register keeps (CHIP 2.3, 8.1)
+-- whether a value has no bits but those that a register keeps (CHIP 2.2, 2.3, 8.1)
 unfoldable pub fits : Register → ℕ → Bool
 fits register value = eqb (keptOf register value) value

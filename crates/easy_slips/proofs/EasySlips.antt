@@ -29,17 +29,17 @@ use Rattle.line.proofs.Uncovered.{CheckedAlike, refused-alike}
 use Rattle.line_reads.proofs.PixelColour.{drawn-colour}
 
 module _ (request : Request) (lent : Lent) (output : List ℕ) where
-  -- 12.1 no black for an undefined entry: a line with an active pixel whose window entry is undefined is refused
+  -- 12.1 no black for an undefined entry: a line with an active pixel whose window entry is undefined is refused; by which number, and where, `Reasons` in `line_reads` says
   pub no-black : {x id : ℕ} → x < controlsOf (request .state .control) .width → PixelId (lent .table) (controlsOf (request .state .control)) (request .y) x id
       → (DefinedId lent (controlsOf (request .state .control) .depth) id → ⊥) → (refusal : Numbered) × (drawn request lent output .1 ≡ refused refusal)
   no-black active has undefined = undefined-refused request lent output active has undefined
 
-  -- 12.2 the check under the cursor: a second line whose cursor, glyph, overlay and samples may all be otherwise is refused by the same number at the same place
+  -- 12.2 the check under the cursor: a second line whose cursor, glyph, overlay row and samples may all be otherwise is refused by the same number at the same place
   pub checked-under-cursor : (other : Request) (given : Lent) → CheckedAlike request other lent given → (old : List ℕ) → length output ≡ length old
       → {refusal : Numbered} → drawn request lent output .1 ≡ refused refusal → drawn other given old .1 ≡ refused refusal
   checked-under-cursor other given alike old long e = refused-alike request other lent given alike output old long e
 
-  -- 12.3 no gamma on cursor colours: where the cursor shows a colour, the word of the output is that word of the store, 4,960 for colour 1 and so on, whatever window entry and gamma map hold
+  -- 12.3 no gamma on cursor colours: where the cursor shows a colour, the word of the output is the low 24 bits of that word of the store, 4,960 for colour 1 and so on, whatever window entry and gamma map hold
   pub cursor-as-stored : drawn request lent output .1 ≡ ok tt → (x number : ℕ) → x < controlsOf (request .state .control) .width
       → CursorShows (pixelView (lent .store) (lent .normal) (lent .overlay)) (screenIn (setupOf request lent (length output))) x (suc number)
       → getD (drawn request lent output .0 .1) x 0 ≡ getD (lent .store) (4960 + number) 0 % 2 ^ 24

@@ -6,4 +6,5 @@ pub mod Drawing
 pub mod Result
 pub mod Defects
 pub mod Uncovered
+pub mod ScreenFields
 pub mod Unique

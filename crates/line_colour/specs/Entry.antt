@@ -47,7 +47,7 @@ abbrev pub withFormat : NamedFormat → (Format → Decoded) → Decoded
 withFormat NoFormat next = Undefined
 withFormat (Is format) next = next format
 
--- an entry is tested for its spare bits, its format, its depth, its buffer and its bank, in this order (CHIP 5.1, 5.2, 5.4, 10.1, 10.2)
+-- an entry is tested for its spare bits, its format, its depth, its buffer and its bank, in this order (CHIP 5.2, 5.4)
 unfoldable pub decoded : ℕ → ℕ → Decoded
 decoded entry depth =
     cond (not (eqb (spareOf entry) 0)) Undefined

@@ -21,6 +21,6 @@ shownAs Rgb444 bank sample = Colour (colourInFormat Rgb444 sample)
 shownAs Rgb555 bank sample = Colour (colourInFormat Rgb555 sample)
 shownAs Rgb888 bank sample = Colour (colourInFormat Rgb888 sample)
 
--- what a sample shows under an entry (CHIP 5.5)
+-- what a sample shows under an entry (CHIP 5.5, 5.6)
 abbrev pub shownOf : WindowEntry → ℕ → Shown
 shownOf entry sample = shownAs (entry .format) (entry .bank) sample

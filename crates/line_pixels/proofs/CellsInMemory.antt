@@ -8,7 +8,7 @@ use lib.ListN.{getD}
 use Rattle.words.specs.Field.{bits}
 use Rattle.words.proofs.Bytes.{big-endian-2, big-endian-4}
 use Rattle.words.proofs.LowBits.{bits-of-low}
-use Rattle.line_pixels.specs.Cells.{inRed, inGreen, inBlue, glyph, cursorColour, sample, mapEntry, gamma, pixelView}
+use Rattle.line_pixels.specs.Cells.{overlayByte, inRed, inGreen, inBlue, glyph, cursorColour, sample, mapEntry, gamma, pixelView}
 
 -- four, and two times two
 four-pow : (n : ℕ) → 4 ^ n ≡ 2 ^ (2 * n)
@@ -55,6 +55,10 @@ module _ (store normal overlay : List ℕ) where
       -- one more, less one
       suc-sub-one : (n : ℕ) → suc n - 1 ≡ n
       suc-sub-one n = omega arith
+
+  -- the overlay byte of a pixel is the byte of the overlay row with its number
+  pub overlay-byte-in-row : (x : ℕ) → pixelView store normal overlay (overlayByte x) ≡ getD overlay x 0
+  overlay-byte-in-row x = refl
 
   -- at depth 16 a pixel is two bytes of the normal row, the first the higher; of them the bits asked for are taken
   pub sample-of-16 : (x low count : ℕ)

@@ -5,6 +5,7 @@ pub mod CursorShows
 pub mod CellsInMemory
 pub mod LayersCases
 pub mod PixelShows
+pub mod NormalShows
 pub mod GammaReads
 pub mod Below
 pub mod Unique

@@ -51,11 +51,11 @@ normalAt depth entry x = do
 unfoldable pub plainAt : ℕ → WindowEntry → ℕ → Rule ⊥ PixelCell ℕ
 plainAt depth entry x = normalAt depth entry x >>= throughGamma (entry .bypass)
 
--- the map entry of overlay byte 0: the overlay colours stand from it on, that of a byte as many entries behind it (CHIP 5.5, 6.2)
+-- the map entry of overlay byte 0: the overlay colours stand from it on, that of a byte as many entries behind it (CHIP 6.2)
 abbrev pub overlayColours : ℕ
 overlayColours = 4352
 
--- the colour of an overlay byte, through gamma (CHIP 5.5, 6.2, 6.3)
+-- the colour of an overlay byte, through gamma (CHIP 6.2, 6.3)
 unfoldable pub overlaid : WindowEntry → ℕ → Rule ⊥ PixelCell ℕ
 overlaid entry byte = get (mapEntry (overlayColours + byte)) >>= throughGamma (entry .bypass)
 

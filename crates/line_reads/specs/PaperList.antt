@@ -9,7 +9,7 @@ use Rattle.line_reads.specs.TableList.{FrameListed, LineListed, WindowLi
 use Rattle.line_reads.specs.Listed.{ColoursListed, AsFarAs}
 
 module _ (setup : Setup) (lent : Lent) where
-  -- both fields of each frame entry searched and of each line entry searched; all 13 bits of the window entry of each ID met, covered or not; and the cells of colours, where there are colours (CHIP 7.1)
+  -- every frame entry and line entry that is searched, with both its fields; for each ID met the 13 bits of its window entry, whatever covers the pixel; and where there are colours, their cells (CHIP 7.1)
   abbrev pub PaperTo : Reach → Cell → Type 0
   PaperTo reach (ofTable (yend number)) = FrameListed setup lent (reach .frames) number
   PaperTo reach (ofTable (lineTable number)) = FrameListed setup lent (reach .frames) number

@@ -76,7 +76,7 @@ module _ (setup : Setup) (lent : Lent) where
         CursorTransparent cellsHere (screenIn setup) x → (channel : Channel) (number : ℕ) → GammaListed cellsHere (screenIn setup) entry x channel number
         → gammaByte (lent .store) channel number ≡ gammaByte store channel number)
 
-  -- of other rows, the overlay byte where it counts and the cursor is transparent, and the used bits of the chosen buffer where overlay is transparent too (CHIP 7.3)
+  -- of other rows, under a transparent cursor the overlay byte of a pixel at which overlay counts, and the sample of one at which overlay shows nothing (CHIP 7.3)
   pub record SameRows (normal overlay : List ℕ) : Type 0 where
     pub overlay-bytes :
         EachPixel (λ x entry. CursorTransparent cellsHere (screenIn setup) x → BothSwitches (screenIn setup) entry → getD (lent .overlay) x 0 ≡ getD overlay x 0)

@@ -11,7 +11,7 @@ use Rattle.line_windows.specs.Search.{servingFrom, servingEntry}
 abbrev pub lineTableEnd : ℕ → ℕ → ℕ
 lineTableEnd tableBytes start = min (512 * (start / 512) + 512) tableBytes
 
--- how many whole entries a line table has (CHIP 4.5)
+-- how many whole entries a line table has (CHIP 4.5, 4.6)
 abbrev pub lineEntries : ℕ → ℕ → ℕ
 lineEntries tableBytes start = (lineTableEnd tableBytes start - start) / 2
 
@@ -27,7 +27,7 @@ endOf start entry = xend (entryByte start entry)
 abbrev pub idCell : ℕ → ℕ → TableCell
 idCell start entry = windowId (entryByte start entry)
 
--- the line entry, from entry `from` on, that serves pixel x: the first that ends there or later; none is 8 (CHIP 8.1)
+-- the line entry, from entry `from` on, that serves pixel x: the first that ends there or later; none is 8 (CHIP 4.7, 8.1)
 abbrev pub lineEntryFrom : ℕ → ℕ → ℕ → ℕ → Rule Numbered TableCell ℕ
 lineEntryFrom tableBytes start from x = servingFrom (numbered (NoLineEntry x)) (endOf start) (lineEntries tableBytes start) from x
 
@@ -35,7 +35,7 @@ lineEntryFrom tableBytes start from x = servingFrom (numbered (NoLineEntry x)) (
 abbrev pub lineEntryOf : ℕ → ℕ → ℕ → Rule Numbered TableCell ℕ
 lineEntryOf tableBytes start x = servingEntry (numbered (NoLineEntry x)) (endOf start) (lineEntries tableBytes start) x
 
--- the ID of pixel x: the line entry that serves it says (CHIP 4.4, 4.6, 4.7)
+-- the ID of pixel x: the line entry that serves it says (CHIP 4.6, 4.7)
 unfoldable pub idOf : ℕ → ℕ → ℕ → Rule Numbered TableCell ℕ
 idOf tableBytes start x = do
   entry ← lineEntryOf tableBytes start x

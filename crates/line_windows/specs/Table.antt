@@ -17,7 +17,7 @@ mostTableBytes = 65536
 abbrev pub frameEntry : List ℕ → ℕ → ℕ
 frameEntry table number = bigEndian table (4 * number) 4
 
--- a line entry has 16 bits (CHIP 1.4)
+-- a line entry has 16 bits (CHIP 1.4, 4.6)
 abbrev pub lineEntry : List ℕ → ℕ → ℕ
 lineEntry table byte = bigEndian table byte 2
 

@@ -7,14 +7,14 @@ use native.Mathlib.Omega.{arith}
 use borrow.Author.Tests.{leb-true, leb-false, ltb-true, le-leb, not-true, not-false}
 use lib.Dec.{leb}
 use lib.ListN.{length}
-use Rattle.rules.proofs.Cases.{impossible}
+use Rattle.rules.proofs.Cases.{impossible, neither, not-both}
 use Rattle.session_records.specs.Tags.{known, lengthsOf, allows}
 use Rattle.session_records.specs.Parts.{there, tagOf, lengthOf}
 use Rattle.session_records.specs.Faults.{unknownTag, wrongLength, tooManyDots, wrong, missing}
 use Rattle.session_records.specs.RecordAt.{recordAt}
 use Rattle.session_records.specs.declared.record.Context.{Context}
 use Rattle.session_records.specs.declared.record.RecordAt.the-variants.{More}
-use Rattle.session_records.proofs.Tests.{both, neither, not-both}
+use Rattle.session_records.proofs.Tests.{both}
 use Rattle.session_records.proofs.ByTag.{each-tag}
 use Rattle.session_records.proofs.Answers.{found-wrong, found-cut-much, found-cut, found-much, found-is}
 use Rattle.session_records.proofs.Judged.{Judged, faulty, waiting, cut-much, cut, much, good, judged}

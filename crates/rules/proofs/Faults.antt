@@ -1,9 +1,19 @@
 -- A call is refused exactly by the first of its faults that holds, and a refused call leaves all as it was. Assumes nothing.
+use Prim.Native.Nat.{ℕ}
 use mathlib.Core.Path.{_≡_, refl, ap, sym, subst, _∙_}
 use mathlib.Core.Bool.{Bool, true, false, true≢false}
 use mathlib.Core.List.{List, [], _∷_, _++_}
 use Rattle.rules.specs.Rule.{Outcome, ok, refused}
 use Rattle.rules.specs.Faults.{Numbered, Fault, Clear, First, unless}
+
+-- the refusals of some faults, in their order
+abbrev pub refusalsIn : List Fault → List Numbered
+refusalsIn [] = []
+refusalsIn (fault ∷ faults) = fault .refusal ∷ refusalsIn faults
+
+-- a refusal by a number at a place
+abbrev pub refusalAt : ℕ → ℕ → Numbered
+refusalAt number place = record { number = number; values = place ∷ [] }
 
 -- the refusal, where there is one
 abbrev refusal-of : {Answer : Type 0} → Numbered → Outcome Numbered Answer → Numbered

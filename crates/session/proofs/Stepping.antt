@@ -9,6 +9,7 @@ use borrow.Author.Tests.{eqb-true, ltb-false, not-false}
 use lib.Dec.{eqb, ltb}
 use lib.ListN.{length, take, drop, length-drop}
 use lib.Seq.{length-take-le, drop-drop}
+use Rattle.rules.proofs.Cases.{neither}
 use Rattle.rules.specs.Rule.{Outcome, ok, refused}
 use Rattle.rules.specs.Faults.{Numbered, Clear}
 use Rattle.rules.specs.Checked.{verdict}
@@ -24,7 +25,6 @@ use Rattle.session_records.specs.declared.record.Record.the-variants.{End, Writ
 use Rattle.session_records.specs.declared.record.Context.{Context}
 use Rattle.session_records.specs.declared.record.RecordAt.{RecordAt}
 use Rattle.session_records.specs.declared.record.RecordAt.the-variants.{Is, More, Refused}
-use Rattle.session_records.proofs.Tests.{neither}
 use Rattle.session_records.proofs.Behind.{judgedAt}
 use Rattle.session_records.proofs.Limits.{table-fits, normal-fits, overlay-fits}
 use Rattle.session_answers.specs.Status.{Status, needsMore, stopped}

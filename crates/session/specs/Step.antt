@@ -21,7 +21,7 @@ stepFaults session rooms =
 abbrev pub Left : Type 0
 Left = (Session × ℕ) × Rooms
 
--- what a step at a place of lent bytes leaves, and what it comes to (CHIP 9.7)
+-- what a step at a place of lent bytes leaves, and what it comes to (CHIP 9.5, 9.8)
 unfoldable pub afterStep : Session → Rooms → List ℕ → ℕ → Bool → Left × Status
 afterStep session rooms bytes place last =
     let step = stepped last (heldIn session rooms) (drop place bytes) in

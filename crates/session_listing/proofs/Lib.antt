@@ -1,3 +1,4 @@
+pub mod Letters
 pub mod Puts
 pub mod Decimal
 pub mod Pixels

@@ -7,3 +7,4 @@ pub mod Accepted
 pub mod Limits
 pub mod Behind
 pub mod Unique
+pub mod Taken

@@ -7,6 +7,7 @@ use native.Mathlib.Omega.{arith}
 use borrow.Author.Tests.{leb-false, ltb-false, le-leb, eq-eqb}
 use lib.Dec.{eqb, leb, ltb}
 use lib.ListN.{length, getD}
+use Rattle.rules.proofs.Cases.{neither, not-both}
 use Rattle.session_records.specs.Tags.{lengthsOf}
 use Rattle.session_records.specs.Parts.{there, tagOf, lengthOf, inBody, recordsOf}
 use Rattle.session_records.specs.Faults.{tooManyRecords, tooLongTable, tooMuch}
@@ -15,7 +16,6 @@ use Rattle.session_records.specs.declared.record.Context.{Context}
 use Rattle.session_records.specs.declared.record.Record.{Record}
 use Rattle.session_records.specs.declared.record.Record.the-variants.{End, Write, Dots, Table, Normal, Overlay, Line}
 use Rattle.session_records.specs.declared.record.RecordAt.the-variants.{Is}
-use Rattle.session_records.proofs.Tests.{neither, not-both}
 use Rattle.session_records.proofs.ByTag.{each-tag}
 use Rattle.session_records.proofs.Whole.{tag-known, most-there, dots-few}
 use Rattle.session_records.proofs.Accepted.{Accepted, found-accepted}

@@ -1,7 +1,7 @@
 -- Tests, put otherwise. Assumes nothing.
 use Prim.Native.Nat.{ℕ, _+_, _-_, _≤_, _<_}
 use mathlib.Core.Path.{_≡_, refl}
-use mathlib.Core.Bool.{Bool, true, false, not, _&&_, _||_}
+use mathlib.Core.Bool.{Bool, true, false, not, _&&_}
 use mathlib.Core.Logic.{_⊎_, inl, inr}
 use native.Mathlib.Omega.{arith}
 use borrow.Author.Tests.{lt-ltb, le-ltb, le-leb, lt-leb}
@@ -31,13 +31,3 @@ less-not a b = not-by a b (le-or-lt b a)
 pub both : (a b : Bool) → a && b ≡ true → (a ≡ true) × (b ≡ true)
 both true b e = (refl, e)
 both false b e = impossible cc
-
--- of two tests of which neither holds, each fails
-pub neither : (a b : Bool) → a || b ≡ false → (a ≡ false) × (b ≡ false)
-neither true b e = impossible cc
-neither false b e = (refl, e)
-
--- of two tests that don't both hold, the second fails where the first holds
-pub not-both : (a b : Bool) → a && b ≡ false → a ≡ true → b ≡ false
-not-both true b e on = e
-not-both false b e on = impossible cc

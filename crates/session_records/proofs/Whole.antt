@@ -8,10 +8,11 @@ use borrow.Author.Tests.{ltb-true, ltb-false, leb-true, le-leb, eq-eqb, not-fals
 use lib.Dec.{eqb, leb, ltb}
 use lib.ListN.{length, drop, length-drop}
 use lib.Seq.{length-take-le}
+use Rattle.rules.proofs.Cases.{neither, not-both}
 use Rattle.session_records.specs.Tags.{known, lengthsOf, allows}
 use Rattle.session_records.specs.Parts.{there, tagOf, lengthOf, bodyOf, inBody}
 use Rattle.session_records.specs.Faults.{unknownTag, wrongLength, tooManyDots, wrong, missing}
-use Rattle.session_records.proofs.Tests.{both, neither, not-both}
+use Rattle.session_records.proofs.Tests.{both}
 
 module _ (bytes : List ℕ) (all : missing bytes ≡ false) where
   -- the head is there, and the body

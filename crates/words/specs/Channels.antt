@@ -7,6 +7,6 @@ use Rattle.words.specs.declared.Rgb.{Rgb}
 abbrev pub channelsOf : ℕ → Rgb
 channelsOf word = record { red = field word 23 16; green = field word 15 8; blue = field word 7 0 }
 
--- the word of three channels, its top byte 0 (CHIP 5.6, 5.8)
+-- the word of three channels, its top byte 0 (CHIP 5.8)
 abbrev pub wordOf : Rgb → ℕ
 wordOf colour = colour .red * 2 ^ 16 + colour .green * 2 ^ 8 + colour .blue
