@@ -26,7 +26,7 @@ fresh = record { control = replicate 9 0; at = record { x = 0; y = 0 }; queue = 
 abbrev pub controlWord : State → ℕ → ℕ
 controlWord state word = getD (state .control) word 0
 
--- control words 2 to 5: horizontal sync, vertical sync, horizontal blank, vertical blank (CHIP 2.3)
+-- the windows: sync in control words 2 and 3, blank in 4 and 5, each horizontal before vertical (CHIP 2.3)
 abbrev pub windowsOf : State → Windows
 windowsOf state =
     record {

@@ -1,4 +1,4 @@
--- Gamma: each channel is replaced by the same channel of the gamma word that it indexes.
+-- Gamma: a channel picks a gamma word by its value, and becomes that word's same channel.
 use Prim.Native.Nat.{ℕ}
 use mathlib.Core.List.{List}
 use lib.ListN.{getD}
