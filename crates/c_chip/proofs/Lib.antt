@@ -1,1 +1,2 @@
+pub mod SignalsInNumbers
 pub mod Unique

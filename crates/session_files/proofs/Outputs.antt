@@ -135,18 +135,28 @@ module _ (held : Held) (output : List ℕ) (long : length output ≡ length (hel
           rw (by-found last (withOutput held output) bytes e, by-found last held bytes e)
           (record { same-held = refl; same-length = long; same-taken = refl; same-status = refl; same-text = refl })
 
+-- what comes of the records behind a step is the same over any output as long, where that holds of what is held after the step
+further-alike : {A : Type 0} (of : Held → List ℕ → A)
+    → ((held : Held) (output bytes : List ℕ) → length output ≡ length (held .output) → of (withOutput held output) bytes ≡ of held bytes)
+    → (held : Held) (output bytes : List ℕ) → length output ≡ length (held .output)
+    → let one = stepped true (withOutput held output) bytes in
+    let other = stepped true held bytes in
+    of (one .0 .0) (drop (one .0 .1) bytes) ≡ of (other .0 .0) (drop (other .0 .1) bytes)
+further-alike of same-of held output bytes long =
+    let same = step-alike held output long true bytes in
+    let one = stepped true (withOutput held output) bytes in
+    let other = stepped true held bytes in
+    ap (λ (next : Held). of next (drop (one .0 .1) bytes)) (same .same-held)
+    ∙ ap (λ (taken : ℕ). of (withOutput (other .0 .0) (one .0 .0 .output)) (drop taken bytes)) (same .same-taken)
+    ∙ same-of (other .0 .0) (one .0 .0 .output) (drop (other .0 .1) bytes) (same .same-length)
+
 -- the listing of further records is the same over any output as long
 pub listing-over : (count : ℕ) (held : Held) (output bytes : List ℕ) → length output ≡ length (held .output)
     → listingFrom count (withOutput held output) bytes ≡ listingFrom count held bytes
 listing-over zero held output bytes long = refl
 listing-over (suc count) held output bytes long =
     let same = step-alike held output long true bytes in
-    let one = stepped true (withOutput held output) bytes in
-    let other = stepped true held bytes in
-    let further : listingFrom count (one .0 .0) (drop (one .0 .1) bytes) ≡ listingFrom count (other .0 .0) (drop (other .0 .1) bytes) =
-    ap (λ (next : Held). listingFrom count next (drop (one .0 .1) bytes)) (same .same-held)
-    ∙ ap (λ (taken : ℕ). listingFrom count (withOutput (other .0 .0) (one .0 .0 .output)) (drop taken bytes)) (same .same-taken)
-    ∙ listing-over count (other .0 .0) (one .0 .0 .output) (drop (other .0 .1) bytes) (same .same-length) in
+    let further = further-alike (listingFrom count) (listing-over count) held output bytes long in
     ap₂ (λ (front rest : List ℕ). front ++ rest) (same .same-text)
     (ap₂ (λ (status : Status) (rest : List ℕ). cond (goesOn status) rest []) (same .same-status) further)
 
@@ -161,12 +171,7 @@ pub ends-over : (count : ℕ) (held : Held) (output bytes : List ℕ) → length
 ends-over zero held output bytes long = refl
 ends-over (suc count) held output bytes long =
     let same = step-alike held output long true bytes in
-    let one = stepped true (withOutput held output) bytes in
-    let other = stepped true held bytes in
-    let further : endsFrom count (one .0 .0) (drop (one .0 .1) bytes) ≡ endsFrom count (other .0 .0) (drop (other .0 .1) bytes) =
-    ap (λ (next : Held). endsFrom count next (drop (one .0 .1) bytes)) (same .same-held)
-    ∙ ap (λ (taken : ℕ). endsFrom count (withOutput (other .0 .0) (one .0 .0 .output)) (drop taken bytes)) (same .same-taken)
-    ∙ ends-over count (other .0 .0) (one .0 .0 .output) (drop (other .0 .1) bytes) (same .same-length) in
+    let further = further-alike (endsFrom count) (ends-over count) held output bytes long in
     ap₂ (λ (status : Status) (rest : Bool). cond (goesOn status) rest (isEnd status)) (same .same-status) further
 
 -- whether the run over a file reaches its end record doesn't rest on what the output held at first
