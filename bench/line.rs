@@ -33,20 +33,20 @@ const FORMATS: [&str; 6] = ["index of 8 bits", "index of 12 bits", "3-3-2", "4-4
 /// The first format that is listed at depth 32 only.
 const DEEP_FORMAT: u32 = 5;
 
-/// Each format at each depth that lists it, one past gamma, and one of everything.
+/// Each format at each depth that lists it, through gamma and past it, and a line of everything.
 pub fn rows() -> impl Iterator<Item = Row> {
-    let shallow = (0..DEEP_FORMAT).map(|of| in_format(of, 0, "depth 16, gamma", 0));
-    let deep = (0..=DEEP_FORMAT).map(|of| in_format(of, DEPTH_32, "depth 32, gamma", 0));
-    let others = [
-        in_format(DEEP_FORMAT, DEPTH_32, "depth 32, gamma bypassed", BYPASS),
-        ("all formats in 256 runs by ID, overlay, cursor".to_string(), mixed()),
-    ];
-    shallow.chain(deep).chain(others).map(|(what, line)| row(format!("line, {what}"), line))
-}
-
-/// A line in one format, and what it is.
-fn in_format(of: u32, switches: u32, how: &str, bits: u32) -> (String, Line) {
-    (format!("{}, {how}", FORMATS[of as usize]), Line::new(switches, |_| format(of) | bits))
+    let depths = [(DEEP_FORMAT, 0, "depth 16"), (DEEP_FORMAT + 1, DEPTH_32, "depth 32")];
+    let formats = depths.into_iter().flat_map(|(formats, switches, depth)| {
+        let gammas = [(0, "gamma"), (BYPASS, "gamma bypassed")];
+        gammas.into_iter().flat_map(move |(bits, gamma)| {
+            (0..formats).map(move |of| {
+                let what = format!("{}, {depth}, {gamma}", FORMATS[of as usize]);
+                (what, Line::new(switches, |_| format(of) | bits))
+            })
+        })
+    });
+    let everything = ("all formats in 256 runs by ID, overlay, cursor".to_string(), mixed());
+    formats.chain([everything]).map(|(what, line)| row(format!("line, {what}"), line))
 }
 
 /// A line that library and model draw the same.

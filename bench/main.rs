@@ -1,5 +1,6 @@
 //! How long lines, dots, writes, reads and sessions take: the proved library and program beside the plain Rust model, as
-//! one table. The words are the paths of the proved program and of the model's.
+//! one table. The words are the paths of the proved program and of the model's. Without words, as on Arm, no sessions
+//! are measured.
 
 #[path = "../tests/answers.rs"]
 mod answers;
@@ -21,11 +22,14 @@ mod session;
 mod step;
 
 fn main() {
-    let mut words = std::env::args().skip(1);
-    let mut path = || words.next().expect("the paths of both programs");
-    let (proved, model) = (path(), path());
+    let words: Vec<String> = std::env::args().skip(1).collect();
+    let sessions = match &words[..] {
+        [] => None,
+        [proved, model] => Some(session::rows(proved, model)),
+        _ => panic!("the words are the paths of both programs, or none"),
+    };
     measure::print_head();
-    for row in line::rows().chain(chip::rows()).chain([step::row()]).chain(session::rows(&proved, &model)) {
+    for row in line::rows().chain(chip::rows()).chain([step::row()]).chain(sessions.into_iter().flatten()) {
         row.print();
     }
 }

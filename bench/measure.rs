@@ -1,4 +1,5 @@
-//! Rows of the table: best times of the proved code and of the model.
+//! Rows of the table: best times of the proved code and of the model. On Arm the proved code is the library
+//! that `bench/native` compiles for Arm.
 
 use std::time::Duration;
 
