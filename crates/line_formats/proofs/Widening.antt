@@ -3,6 +3,7 @@
 --     widened-is    and no second number of 8 bits has that
 --     widened-lt    the result has 8 bits
 --     by-shifts     one, two, four and eight copies by shifts, and the first 8 bits of them: the code
+--     by-table      a look-up among the eight numbers of 3 bits, widened: the code for that width
 -- and the closed forms for the widths in use. Assumes nothing.
 use Prim.Native.Nat.{ℕ, zero, suc, _+_, _-_, _*_, _/_, _%_, _^_, _≤_, _<_}
 use mathlib.Core.Path.{_≡_, refl, sym, ap, _∙_}
@@ -14,7 +15,9 @@ use lib.Bits.{bitOr, or-shifted}
 use lib.Dec.{lit<}
 use lib.Pow.{pow-add, pow-pos, shr-lt, shl-exact, shr-shr, high}
 use lib.Arith.{digits-lt, digits-mod}
+use Rattle.rules.specs.Lists.{values}
 use Rattle.rules.proofs.Cases.{le-or-lt}
+use Rattle.rules.proofs.Lists.{same-values}
 use Rattle.line_formats.specs.Channel.{repeated, widened}
 
 -- bit i from the top of a number of `width` bits, the top one being bit 0
@@ -116,6 +119,14 @@ by-shifts value width fits h =
     twice-repeated value width 2 (twice value width) (2 * width) h two refl (omega arith) in
     ap (λ (x : ℕ). x / 2 ^ (8 * width - 8))
     (twice-repeated value width 4 (twice (twice value width) (2 * width)) (4 * width) h four refl (omega arith))
+
+-- byte i of a word, the lowest being byte 0
+abbrev pub byteOf : ℕ → ℕ → ℕ
+byteOf word i = word / 2 ^ (8 * i) % 256
+
+-- a word whose bytes are every number of 3 bits, widened, has a number's in its byte
+pub by-table : (table value : ℕ) → values (byteOf table) 8 0 ≡ values (λ v. widened v 3) 8 0 → value < 8 → byteOf table value ≡ widened value 3
+by-table table value computed h = same-values (byteOf table) (λ v. widened v 3) 8 computed value h
 
 -- ---- the closed forms of the five widths in use
 

@@ -4,11 +4,17 @@ ghost use mathlib.Core.Path.{_≡_};
 ghost use Rattle.line_formats.specs.Channel.{widened, channel, colourByWidths};
 use words::Rgb;
 
-// A channel of a few bits as 8 bits: its bits repeated from the top.
+// Each number of 3 bits, widened to 8: that of 0 in the lowest byte. A word stays in a register, where an array would be built again for each look-up.
+const THREE_BITS: u64 = 0xFF_DB_B6_92_6D_49_24_00;
+
+// A channel of a few bits as 8 bits: its bits repeated from the top. Three bits are looked up.
 pub(crate) fn widen(value: u32, width: u32) -> u8
     requires { ⌜ (1 ≤ width) × (width ≤ 8) × (value < 2 ^ width) ⌝ }
     ensures { λ r. ⌜ r ≡ widened value width ⌝ }
 {
+    if width == 3 {
+        return ((THREE_BITS >> (8 * value)) % 256) as u8;
+    }
     let one = value as u64;
     let two = (one << width) | one;
     let four = (two << (2 * width)) | two;

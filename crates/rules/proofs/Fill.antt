@@ -6,10 +6,10 @@ use native.Mathlib.Omega.{arith}
 use native.Mathlib.Nat.{add-zero, zero-add, add-suc, suc-add, not-suc-le-zero}
 use native.Mathlib.Numerals.{add-one}
 use borrow.Rule.Slice.PartMut.{putMid}
-use lib.ListN.{length, set, take, drop, length-set, length-append, length-drop}
+use lib.ListN.{length, getD, set, take, drop, length-set, length-append, length-drop}
 use lib.Seq.{take-at, drop-at, drop-drop, drop-length, take-length}
 use Rattle.rules.specs.Lists.{values, filled}
-use Rattle.rules.proofs.Lists.{length-values, values-add}
+use Rattle.rules.proofs.Lists.{length-values, values-add, value-at}
 
 module _ {A : Type 0} (at : ℕ → A) where
   -- a store behind the elements that are filled fills one more
@@ -59,6 +59,11 @@ module _ {A : Type 0} (f g : ℕ → A) where
 pub filled-same : {A : Type 0} (f g : ℕ → A) (from : ℕ) (room : List A) (count : ℕ)
     → ((p : ℕ) → from ≤ p → p < from + count → f p ≡ g p) → filled f from room count ≡ filled g from room count
 filled-same {A} f g from room count same = ap (λ (front : List A). front ++ drop count room) (values-same f g count from same)
+
+-- what a look-up finds in a list that was filled from 0 on
+pub looked-up : {A : Type 0} (at : ℕ → A) (room : List A) (count place : ℕ) (none : A) {now : List A} → now ≡ filled at 0 room count → place < count
+    → getD now place none ≡ at place
+looked-up {A = A} at room count place none e h = ap (λ (list : List A). getD list place none) e ∙ value-at at count 0 (drop count room) place none h ∙ rw zero-add
 
 -- a list whose front is filled is as long as it was
 pub filled-length : {A : Type 0} (at : ℕ → A) (from : ℕ) (room : List A) (count : ℕ) → count ≤ length room → length (filled at from room count) ≡ length room

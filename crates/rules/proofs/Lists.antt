@@ -1,11 +1,11 @@
--- The values at successive positions: how many, one stretch behind another, and which are among them. Assumes nothing.
+-- The values at successive positions: how many, one stretch behind another, each at its place, and which are among them. Assumes nothing.
 use Prim.Native.Nat.{ℕ, zero, suc, _+_, _≤_, _<_}
 use mathlib.Core.Path.{_≡_, refl, sym, ap, _∙_}
-use mathlib.Core.List.{List, _∷_, _++_, List·Memᴰ, List·Memᴰ·head, List·Memᴰ·tail, List·Memᴰ·cases-cons, List·Memᴰ·not-nil}
+use mathlib.Core.List.{List, [], _∷_, _++_, List·Memᴰ, List·Memᴰ·head, List·Memᴰ·tail, List·Memᴰ·cases-cons, List·Memᴰ·not-nil}
 use mathlib.Core.Logic.{⊎-elim}
 use native.Mathlib.Omega.{arith}
-use native.Mathlib.Nat.{add-zero, zero-add, add-suc, suc-add, eq-or-lt-of-le}
-use lib.ListN.{length}
+use native.Mathlib.Nat.{add-zero, zero-add, add-suc, suc-add, eq-or-lt-of-le, le-of-suc-le-suc, not-suc-le-zero}
+use lib.ListN.{length, getD}
 use Rattle.rules.specs.Lists.{values}
 
 module _ {A : Type 0} (at : ℕ → A) where
@@ -19,6 +19,19 @@ module _ {A : Type 0} (at : ℕ → A) where
   values-add zero n from = rw (zero-add, add-zero)
   values-add (suc m) n from =
       rw suc-add (ap (λ (rest : List A). at from ∷ rest) (values-add m n (suc from) ∙ rw (suc-add, add-suc)))
+
+  -- each stands at its place, whatever follows them
+  pub value-at : (count from : ℕ) (rest : List A) (place : ℕ) (none : A) → place < count → getD (values at count from ++ rest) place none ≡ at (from + place)
+  value-at zero from rest place none h = absurd (not-suc-le-zero h)
+  value-at (suc count) from rest zero none h = rw add-zero
+  value-at (suc count) from rest (suc place) none h = value-at count (suc from) rest place none (le-of-suc-le-suc h) ∙ rw (suc-add, add-suc)
+
+-- where the lists of two functions are the same, both have the same value at each place
+pub same-values : {A : Type 0} (one other : ℕ → A) (count : ℕ) → values one count 0 ≡ values other count 0 → (place : ℕ) → place < count → one place ≡ other place
+same-values {A = A} one other count e place h =
+    let at-one : getD (values one count 0 ++ []) place (one 0) ≡ one place = value-at one count 0 [] place (one 0) h ∙ rw zero-add in
+    let at-other : getD (values other count 0 ++ []) place (one 0) ≡ other place = value-at other count 0 [] place (one 0) h ∙ rw zero-add in
+    sym at-one ∙ ap (λ (all : List A). getD (all ++ []) place (one 0)) e ∙ at-other
 
 -- ---- which are among them
 
