@@ -2,15 +2,19 @@
 use Prim.Native.Nat.{ℕ, _+_, _≤_, _<_}
 use mathlib.Core.Path.{_≡_, refl, sym, ap, _∙_}
 use mathlib.Core.Bool.{true, false}
+use mathlib.Core.Logic.{_⊎_, inl, inr}
 use mathlib.Core.List.{List}
+use native.Mathlib.Nat.{add-zero, zero-add}
 use borrow.Author.Tests.{eq-eqb, ne-eqb}
-use Rattle.rules.specs.Rule.{value}
+use Rattle.rules.specs.Rule.{value, _>>=_}
 use Rattle.rules.specs.Lists.{filled}
 use Rattle.rules.proofs.Value.{value-then}
 use Rattle.rules.proofs.Fill.{filled-same}
+use Rattle.words.specs.Field.{bits}
 use Rattle.words.specs.Channels.{wordOf}
 use Rattle.words.specs.declared.Rgb.{Rgb}
-use Rattle.line_formats.specs.Table.{widthsOf}
+use Rattle.line_formats.specs.Table.{widthsOf, valueOf, entryInBank, colourInFormat}
+use Rattle.line_formats.specs.declared.Format.the-variants.{Index8, Index12, Rgb332, Rgb444, Rgb555, Rgb888}
 use Rattle.line_colour.specs.Shown.{shownOf}
 use Rattle.line_colour.specs.declared.entry.WindowEntry.{WindowEntry}
 use Rattle.line_colour.specs.declared.entry.Shown.{Shown}
@@ -42,6 +46,34 @@ module _ (memory : PixelCell → ℕ) (depth : ℕ) (entry : WindowEntry) (x : �
       → word ≡ value memory (plainAt depth entry x)
   unfolding plainAt
   plain-of-normal of is = rw (value-then memory (normalAt depth entry x) (throughGamma (entry .bypass)), ← of) is
+
+-- the plain colour of a pixel is the colour of what its sample shows, through gamma
+pub plain-of-shown : (memory : PixelCell → ℕ) (depth : ℕ) (entry : WindowEntry) (x : ℕ) {word used : ℕ} {shown : Shown}
+    → used ≡ memory (sample depth x (entry .low) (widthsOf (entry .format) .bits)) → shownOf entry used ≡ shown
+    → word ≡ value memory (shownColour shown >>= throughGamma (entry .bypass)) → word ≡ value memory (plainAt depth entry x)
+unfolding plainAt normalAt
+plain-of-shown memory depth entry x of shows is =
+    is ∙ ap (λ (s : Shown). value memory (shownColour s >>= throughGamma (entry .bypass))) (sym shows ∙ ap (shownOf entry) of)
+
+module _ (entry : WindowEntry) (used : ℕ) where
+  -- an 8-bit index shows the entry that stands as many behind the first of its bank
+  pub shown-index8 : {first : ℕ} → entry .format ≡ Index8 → first ≡ entryInBank (entry .bank) (valueOf Index8 0)
+      → shownOf entry used ≡ MapEntry (first + bits used 0 (widthsOf (entry .format) .bits))
+  shown-index8 format is = rw (format, is, add-zero)
+
+  -- a 12-bit index shows the entry that stands as many behind entry 0
+  pub shown-index12 : entry .format ≡ Index12 → shownOf entry used ≡ MapEntry (0 + bits used 0 (widthsOf (entry .format) .bits))
+  shown-index12 format = rw (format, zero-add)
+
+  -- in RGB 4-4-4, 5-5-5 and 8-8-8 a sample shows a colour of its own
+  pub shown-rgb : (entry .format ≡ Rgb444) ⊎ (entry .format ≡ Rgb555) ⊎ (entry .format ≡ Rgb888) → shownOf entry used ≡ Colour (colourInFormat (entry .format) used)
+  shown-rgb (inl format) = rw format
+  shown-rgb (inr (inl format)) = rw format
+  shown-rgb (inr (inr format)) = rw format
+
+  -- in RGB 3-3-2 too
+  pub shown-332 : entry .format ≡ Rgb332 → shownOf entry used ≡ Colour (colourInFormat Rgb332 used)
+  shown-332 format = rw format
 
 module _ (memory : PixelCell → ℕ) (screen : Screen) (entry : WindowEntry) (x : ℕ) where
   -- where overlay counts, a pixel's overlay byte is that of the row

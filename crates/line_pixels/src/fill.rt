@@ -8,11 +8,15 @@ ghost use Rattle.line_pixels.specs.Cells.{pixelView};
 ghost use Rattle.line_pixels.specs.Colour.{colourOfPixel};
 ghost use Rattle.line_pixels.specs.Inner.{PlainLent, PixelsLent, OnlyPlain, FilledPlain};
 use crate::Screen;
-use crate::layers::plain_at;
+use crate::mapped::fill_mapped;
+use crate::rgb::fill_rgb;
+use crate::rgb_332::fill_332;
 use crate::sampling::Sampling;
 use line_colour::entry::WindowEntry;
+use line_formats::Format;
+use line_formats::Index8;
 
-// A run where neither cursor nor overlay shows.
+// A run where neither cursor nor overlay shows, by the loop of its format.
 fn fill_plain(
     depth: u32,
     entry: WindowEntry,
@@ -26,10 +30,28 @@ fn fill_plain(
     ensures { λ _. ⌜ FilledPlain depth entry (now (store .entry)) (now (normal .entry)) x count (now (out .entry)) (now (out .exit)) ⌝ }
 {
     let sampling = Sampling::of(entry);
-    let mut i = 0;
-    while i < count {
-        out[i] = plain_at(depth, sampling, store, normal, x + i);
-        i += 1;
+    let format = entry.format;
+    // The arms stand apart since each loop asks for its format.
+    match format {
+        Format::Index8 => {
+            let first = Index8::map_entry(entry.bank, 0);
+            fill_mapped(depth, sampling, first, store, normal, x, count, out);
+        }
+        Format::Index12 => {
+            fill_mapped(depth, sampling, 0, store, normal, x, count, out);
+        }
+        Format::Rgb332 => {
+            fill_332(depth, sampling, store, normal, x, count, out);
+        }
+        Format::Rgb444 => {
+            fill_rgb(depth, sampling, store, normal, x, count, out);
+        }
+        Format::Rgb555 => {
+            fill_rgb(depth, sampling, store, normal, x, count, out);
+        }
+        Format::Rgb888 => {
+            fill_rgb(depth, sampling, store, normal, x, count, out);
+        }
     }
 }
 

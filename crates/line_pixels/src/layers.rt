@@ -28,7 +28,7 @@ use words::Rgb;
 const OVERLAY_COLOURS: u32 = 4352;
 
 // A pixel of the normal row, all bits of it.
-fn pixel_word(depth: u32, normal: &[u8], x: usize) -> u32
+pub(crate) fn pixel_word(depth: u32, normal: &[u8], x: usize) -> u32
     requires { ⌜ ((depth ≡ 16) ⊎ (depth ≡ 32)) × ((x + 1) * (depth / 8) ≤ length (now normal)) ⌝ }
     ensures { λ r. ⌜ r ≡ pixelWord depth (now (normal .entry)) x ⌝ }
 {
@@ -39,7 +39,7 @@ fn pixel_word(depth: u32, normal: &[u8], x: usize) -> u32
 }
 
 // A word of the colour map.
-fn mapped(store: &[u32], entry: u32) -> u32
+pub(crate) fn mapped(store: &[u32], entry: u32) -> u32
     requires { ⌜ (length (now store) ≡ storeLength) × (entry < count Block.ColourMap) ⌝ }
     ensures { λ r. ⌜ OverStore (now (store .entry)) (get (mapEntry entry)) r ⌝ }
 {
@@ -55,9 +55,8 @@ fn normal_at(depth: u32, sampling: Sampling, store: &[u32], normal: &[u8], x: us
     requires { ⌜ PlainLent depth (sampling .entry) (now store) (now normal) (x + 1) × (sampling ≡ samplingOf (sampling .entry)) ⌝ }
     ensures { λ r. ⌜ OverNormal (now (store .entry)) (now (normal .entry)) (normalAt depth (sampling .entry) x) r ⌝ }
 {
-    let pixel = pixel_word(depth, normal, x);
     let entry = sampling.entry;
-    let sample = words::bits(pixel, entry.low, sampling.bits);
+    let sample = sampling.sample_at(depth, normal, x);
     let format = entry.format;
     match format {
         Format::Index8 => mapped(store, Index8::map_entry(entry.bank, sample)),
@@ -74,7 +73,7 @@ fn normal_at(depth: u32, sampling: Sampling, store: &[u32], normal: &[u8], x: us
 }
 
 // A colour through gamma, unless it skips it.
-fn through_gamma(store: &[u32], skips: bool, word: u32) -> u32
+pub(crate) fn through_gamma(store: &[u32], skips: bool, word: u32) -> u32
     requires { ⌜ length (now store) ≡ storeLength ⌝ }
     ensures { λ r. ⌜ OverStore (now (store .entry)) (throughGamma skips word) r ⌝ }
 {
@@ -89,13 +88,7 @@ fn through_gamma(store: &[u32], skips: bool, word: u32) -> u32
 }
 
 // The colour of a pixel where neither cursor nor overlay shows.
-pub(crate) fn plain_at(
-    depth: u32,
-    sampling: Sampling,
-    store: &[u32],
-    normal: &[u8],
-    x: usize,
-) -> u32
+fn plain_at(depth: u32, sampling: Sampling, store: &[u32], normal: &[u8], x: usize) -> u32
     requires { ⌜ PlainLent depth (sampling .entry) (now store) (now normal) (x + 1) × (sampling ≡ samplingOf (sampling .entry)) ⌝ }
     ensures { λ r. ⌜ OverNormal (now (store .entry)) (now (normal .entry)) (plainAt depth (sampling .entry) x) r ⌝ }
 {

@@ -2,6 +2,9 @@
 mod cursor;
 pub mod fill;
 mod layers;
+mod mapped;
+mod rgb;
+mod rgb_332;
 mod sampling;
 mod store;
 

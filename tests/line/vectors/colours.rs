@@ -2,12 +2,14 @@
 
 use super::*;
 
-pub const VECTORS: [Vector; 5] = [
+pub const VECTORS: [Vector; 7] = [
     ("colours worked out by hand", by_hand),
     ("every entry at both depths, one pixel", every_entry),
     ("every entry of 11 bits at both depths, some pixels", every_entry_on_a_line),
     ("every sample of 16 bits in each format and buffer", every_sample),
     ("each channel of 8 bits in each value", every_channel),
+    ("each sample of 3-3-2 by hand, in short runs and long ones", every_332),
+    ("runs of 1 to 640 pixels in each format", every_length),
 ];
 
 /// Why, depth, entry, sample, colour.
@@ -117,6 +119,49 @@ fn every_channel(pair: &mut Pair) -> Compared<()> {
             case.sample(value as usize, noise(value) & !(255 << shift) | value << shift);
         }
         pair.lend(&case)?;
+    }
+    Ok(())
+}
+
+/// What each number of 3 bits widens to.
+const THREE_BITS: [u32; 8] = [0, 36, 73, 109, 146, 182, 219, 255];
+
+/// What each number of 2 bits widens to.
+const TWO_BITS: [u32; 4] = [0, 85, 170, 255];
+
+/// Samples 0 to 255 again and again, from either buffer at both depths, past gamma and through it.
+fn every_332(pair: &mut Pair) -> Compared<()> {
+    let buffers = [(16, 0, 0), (16, BUFFER_1, 8), (32, 0, 0), (32, BUFFER_1, 16)];
+    for ((depth, buffer, shift), bypass) in buffers.into_iter().flat_map(|of| [(of, 0), (of, BYPASS)]) {
+        for width in [1, 8, 256, 511, 512, 513, 2048] {
+            let mut case = plain(depth, width);
+            case.window(0, format(2) | buffer | bypass);
+            let mut wanted = Vec::new();
+            for x in 0..width {
+                let sample = x % 256;
+                case.sample(x as usize, noise(x) & !(255 << shift) | sample << shift);
+                let [red, green] = [sample, sample >> 3].map(|bits| THREE_BITS[bits as usize % 8]);
+                let blue = TWO_BITS[sample as usize >> 6];
+                let through_gamma = [255 - red, (green + 1) % 256, blue ^ 0x55];
+                let [red, green, blue] = if bypass == 0 { through_gamma } else { [red, green, blue] };
+                wanted.push(red << 16 | green << 8 | blue);
+            }
+            pair.expect(&case, colours(&wanted))?;
+        }
+    }
+    Ok(())
+}
+
+/// Lines of one run and of 1 to 640 pixels.
+fn every_length(pair: &mut Pair) -> Compared<()> {
+    for (depth, formats) in [(16, 5), (32, 6)] {
+        for entry in (0..formats).flat_map(|number| [format(number), format(number) | BYPASS]) {
+            for width in 1..=640 {
+                let mut case = noisy(depth, width, entry);
+                case.window(0, entry);
+                pair.lend(&case)?;
+            }
+        }
     }
     Ok(())
 }

@@ -1,78 +1,131 @@
--- `line_pixels::fill::fill_plain` meets its contract: one pixel a turn. Assumes nothing.
-use Prim.Native.Nat.{ℕ, _+_, _-_, _≤_}
+-- `line_pixels::fill::fill_plain` meets its contract: by the loop of its format. Assumes nothing.
 use mathlib.Core.Path.{refl}
-use mathlib.Core.List.{List, []}
-use native.Mathlib.Omega.{arith}
+use mathlib.Core.Logic.{inl, inr}
 use borrow.Author.Needs.{needs}
-use Rattle.rules.specs.Rule.{value}
-use Rattle.rules.proofs.Fill.{Filling, fill-start, fill-next, fill-over}
-use Rattle.line_pixels.specs.Cells.{pixelView}
-use Rattle.line_pixels.specs.Colour.{plainAt}
-use Rattle.line_pixels.proofs.Rows.{plain-before, pixels-le}
+use Rattle.line_pixels.proofs.LayersCases.{shown-index8, shown-index12}
 use Rattle.line_pixels.proofs.fill.fill_plain.Statement.{statement}
 use Rattle.line_pixels.proofs.fill.fill_plain.Tie as tie
 
--- the pixels before i are filled with their plain colours, whatever the overlay row holds
-abbrev Inv-loop : tie.InvT-loop
-Inv-loop depth store normal x count out₀ sampling i₀ out i =
-    (overlay : List ℕ) → Filling (λ p. value (pixelView store normal overlay) (plainAt depth (sampling .entry) p)) x count out₀ out i
-
--- the pixels that are left
-abbrev μ-loop : tie.MeasureT-loop
-μ-loop depth store normal x count out₀ sampling i₀ out i = count - i
-
-of-requires : tie.Need-of-requires Inv-loop μ-loop
+of-requires : tie.Need-of-requires
 of-requires c κs = search needs
 
-loop-holds : tie.Need-loop-holds Inv-loop μ-loop
-loop-holds c = λ overlay. fill-start (c .before .before .before .before .pre .1)
+enum-told : tie.Need-enum-told
+enum-told c = search needs
 
-add-plain-at : tie.Need-add-plain-at Inv-loop μ-loop
-add-plain-at c = omega (arith, pixels-le (c .before .before .before .before .before .before .pre .0))
+map-entry-requires : tie.Need-map-entry-requires
+map-entry-requires c κs = search needs
 
-plain-at-requires : tie.Need-plain-at-requires Inv-loop μ-loop
-plain-at-requires c κs =
-    let start = c .before .before .before .before .before .before in
-    let before : start .args .x + c .before .loop .i + 1 ≤ start .args .x + start .args .count = omega (arith, c .loop-test .taken) in
-    rw (c .before .before .of .ensures) (plain-before (start .pre .0) before, refl)
+fill-mapped-requires : tie.Need-fill-mapped-requires
+fill-mapped-requires c κs =
+    let start = c .before .before .before .before .before .before .before .before in
+    let told = c .before .before in
+    rw (c .before .before .before .before .of .ensures)
+    (start .pre .0, refl, (λ sample. shown-index8 (start .args .entry) sample (told .enum-told .given .1) (c .before .map-entry .ensures)), start .pre .1)
 
-mul-out : tie.Need-mul-out Inv-loop μ-loop
-mul-out c = omega (arith, c .before .before .loop .inv [])
+enum-told-2 : tie.Need-enum-told-2
+enum-told-2 c = search needs
 
-slice-write-out : tie.Need-slice-write-out Inv-loop μ-loop
-slice-write-out c = omega (arith, c .before .before .loop .inv [])
+fill-mapped-requires-2 : tie.Need-fill-mapped-requires-2
+fill-mapped-requires-2 c κs =
+    let start = c .before .before .before .before .before .before .before in
+    rw (c .before .before .before .of .ensures)
+    (start .pre .0, refl, (λ sample. shown-index12 (start .args .entry) sample (c .before .enum-told2 .given .1)), start .pre .1)
 
-add-i : tie.Need-add-i Inv-loop μ-loop
-add-i c = omega (arith, c .before .before .loop .inv [])
+enum-told-3 : tie.Need-enum-told-3
+enum-told-3 c = search needs
 
-loop-less : tie.Need-loop-less Inv-loop μ-loop
-loop-less c = omega arith
+fill-332-requires : tie.Need-fill-332-requires
+fill-332-requires c κs =
+    let start = c .before .before .before .before .before .before .before in
+    rw (c .before .before .before .of .ensures) (start .pre .0, refl, c .before .enum-told3 .given .1, start .pre .1)
 
-loop-again : tie.Need-loop-again Inv-loop μ-loop
-loop-again c = λ overlay. fill-next (c .before .before .loop .inv overlay) (c .before .loop-test .taken) (c .plain-at .ensures overlay)
+enum-told-4 : tie.Need-enum-told-4
+enum-told-4 c = search needs
 
-same-length : tie.Need-same-length Inv-loop μ-loop
-same-length c = c .before .loop .inv [] .long
+fill-rgb-requires : tie.Need-fill-rgb-requires
+fill-rgb-requires c κs =
+    let start = c .before .before .before .before .before .before .before in
+    rw (c .before .before .before .of .ensures) (start .pre .0, refl, inl (c .before .enum-told4 .given .1), start .pre .1)
 
-returns : tie.Need-returns Inv-loop μ-loop
-returns c =
-    λ overlay.
-    fill-over (rw (c .before .before .of .ensures) at (c .before .loop .inv overlay)) (c .loop-test .left)
+enum-told-5 : tie.Need-enum-told-5
+enum-told-5 c = search needs
+
+fill-rgb-requires-2 : tie.Need-fill-rgb-requires-2
+fill-rgb-requires-2 c κs =
+    let start = c .before .before .before .before .before .before .before in
+    rw (c .before .before .before .of .ensures) (start .pre .0, refl, inr (inl (c .before .enum-told5 .given .1)), start .pre .1)
+
+enum-told-6 : tie.Need-enum-told-6
+enum-told-6 c = search needs
+
+fill-rgb-requires-3 : tie.Need-fill-rgb-requires-3
+fill-rgb-requires-3 c κs =
+    let start = c .before .before .before .before .before .before .before in
+    rw (c .before .before .before .of .ensures) (start .pre .0, refl, inr (inr (c .before .enum-told6 .given .1)), start .pre .1)
+
+same-length : tie.Need-same-length
+same-length c = search needs
+
+returns : tie.Need-returns
+returns c = rw (c .before .before .before .before .before .before .before .of .ensures) at (c .before .before .fill-mapped .ensures)
+
+same-length-2 : tie.Need-same-length-2
+same-length-2 c = search needs
+
+returns-2 : tie.Need-returns-2
+returns-2 c = rw (c .before .before .before .before .before .before .of .ensures) at (c .before .before .fill-mapped2 .ensures)
+
+same-length-3 : tie.Need-same-length-3
+same-length-3 c = search needs
+
+returns-3 : tie.Need-returns-3
+returns-3 c = rw (c .before .before .before .before .before .before .of .ensures) at (c .before .before .fill-332 .ensures)
+
+same-length-4 : tie.Need-same-length-4
+same-length-4 c = search needs
+
+returns-4 : tie.Need-returns-4
+returns-4 c = rw (c .before .before .before .before .before .before .of .ensures) at (c .before .before .fill-rgb .ensures)
+
+same-length-5 : tie.Need-same-length-5
+same-length-5 c = search needs
+
+returns-5 : tie.Need-returns-5
+returns-5 c = rw (c .before .before .before .before .before .before .of .ensures) at (c .before .before .fill-rgb2 .ensures)
+
+same-length-6 : tie.Need-same-length-6
+same-length-6 c = search needs
+
+returns-6 : tie.Need-returns-6
+returns-6 c = rw (c .before .before .before .before .before .before .of .ensures) at (c .before .before .fill-rgb3 .ensures)
 
 pub fill-plain-spec : {M : Type 1} → statement M
 fill-plain-spec =
     tie.close
     (tie.spec
-    Inv-loop
-    μ-loop
     of-requires
-    loop-holds
-    add-plain-at
-    plain-at-requires
-    mul-out
-    slice-write-out
-    add-i
-    loop-less
-    loop-again
+    enum-told
+    map-entry-requires
+    fill-mapped-requires
+    enum-told-2
+    fill-mapped-requires-2
+    enum-told-3
+    fill-332-requires
+    enum-told-4
+    fill-rgb-requires
+    enum-told-5
+    fill-rgb-requires-2
+    enum-told-6
+    fill-rgb-requires-3
     same-length
-    returns)
+    returns
+    same-length-2
+    returns-2
+    same-length-3
+    returns-3
+    same-length-4
+    returns-4
+    same-length-5
+    returns-5
+    same-length-6
+    returns-6)

@@ -1,0 +1,113 @@
+-- `line_pixels::mapped::fill_mapped` meets its contract: each pixel gets the map entry that its index shows. Assumes nothing.
+use Prim.Native.Nat.{ℕ, _+_, _-_, _≤_, _<_}
+use mathlib.Core.Path.{_≡_, ap, _∙_}
+use mathlib.Core.List.{List, []}
+use native.Mathlib.Nat.{div-one, mod-eq-of-lt}
+use native.Mathlib.Omega.{arith}
+use Rattle.rules.specs.Rule.{value}
+use Rattle.rules.proofs.Fill.{Filling, fill-start, fill-next, fill-over}
+use Rattle.words.specs.Field.{bits}
+use Rattle.line_colour.specs.Shown.{shownOf}
+use Rattle.line_colour.specs.declared.entry.Shown.the-variants.{MapEntry}
+use Rattle.line_colour.proofs.Defined.{map-entry-below}
+use Rattle.line_pixels.specs.Cells.{pixelView}
+use Rattle.line_pixels.specs.Colour.{plainAt}
+use Rattle.line_pixels.proofs.Rows.{said-says, plain-before, pixels-le}
+use Rattle.line_pixels.proofs.LayersCases.{plain-of-shown}
+use Rattle.line_pixels.proofs.mapped.fill_mapped.Statement.{statement}
+use Rattle.line_pixels.proofs.mapped.fill_mapped.Tie as tie
+
+-- the pixels before i are filled with their plain colours, whatever the overlay row holds
+abbrev Inv-loop : tie.InvT-loop
+Inv-loop depth sampling first store normal x count out₀ bypass i₀ out i =
+    (overlay : List ℕ) → Filling (λ p. value (pixelView store normal overlay) (plainAt depth (sampling .entry) p)) x count out₀ out i
+
+-- the pixels that are left
+abbrev μ-loop : tie.MeasureT-loop
+μ-loop depth sampling first store normal x count out₀ bypass i₀ out i = count - i
+
+-- where the run started
+abbrev start-of : tie.At-loop Inv-loop μ-loop → tie.Start Inv-loop μ-loop
+start-of c = c .before .before .before .before
+
+-- an index shows the entry that stands as many behind the first
+shows : (c : tie.After-sample-at Inv-loop μ-loop)
+    → let a = start-of (c .before .before) .args in shownOf (a .sampling .entry) (c .sample-at .result) ≡ MapEntry (a .first + c .sample-at .result)
+shows c =
+    let start = start-of (c .before .before) in
+    let a = start .args in
+    let all : bits (c .sample-at .result) 0 (a .sampling .bits) ≡ c .sample-at .result = rw div-one (mod-eq-of-lt (c .sample-at .ensures .1)) in
+    start .pre .2 (c .sample-at .result) ∙ ap (λ (n : ℕ). MapEntry (a .first + n)) all
+
+-- and that is in the map
+in-map : (c : tie.After-sample-at Inv-loop μ-loop) → start-of (c .before .before) .args .first + c .sample-at .result < 4608
+in-map c =
+    let start = start-of (c .before .before) in
+    let a = start .args in
+    map-entry-below (a .depth) (a .sampling .entry) (c .sample-at .result) (said-says (a .depth) (a .sampling .entry) (start .pre .0 .said)) (shows c)
+
+loop-holds : tie.Need-loop-holds Inv-loop μ-loop
+loop-holds c = λ overlay. fill-start (c .before .before .before .pre .3)
+
+add-sample-at : tie.Need-add-sample-at Inv-loop μ-loop
+add-sample-at c = omega (arith, pixels-le (start-of (c .before) .pre .0))
+
+sample-at-requires : tie.Need-sample-at-requires Inv-loop μ-loop
+sample-at-requires c κs =
+    let start = start-of (c .before) in
+    let before : start .args .x + c .before .loop .i + 1 ≤ start .args .x + start .args .count = omega (arith, c .loop-test .taken) in
+    (start .pre .0 .said, start .pre .1, plain-before (start .pre .0) before .normal-long)
+
+add-plain-entry : tie.Need-add-plain-entry Inv-loop μ-loop
+add-plain-entry c = omega (arith, in-map c)
+
+plain-entry-requires : tie.Need-plain-entry-requires Inv-loop μ-loop
+plain-entry-requires c κs = (start-of (c .before .before) .pre .0 .store-long, in-map c)
+
+mul-out : tie.Need-mul-out Inv-loop μ-loop
+mul-out c = omega (arith, c .before .before .before .loop .inv [])
+
+slice-write-out : tie.Need-slice-write-out Inv-loop μ-loop
+slice-write-out c = omega (arith, c .before .before .before .loop .inv [])
+
+add-i : tie.Need-add-i Inv-loop μ-loop
+add-i c = omega (arith, c .before .before .before .loop .inv [])
+
+loop-less : tie.Need-loop-less Inv-loop μ-loop
+loop-less c = omega arith
+
+loop-again : tie.Need-loop-again Inv-loop μ-loop
+loop-again c =
+    let at-loop = c .before .before .before in
+    let a = start-of at-loop .args in
+    λ overlay.
+    fill-next (at-loop .loop .inv overlay) (c .before .before .loop-test .taken)
+    (plain-of-shown (pixelView (a .store .now) (a .normal .now) overlay) (a .depth) (a .sampling .entry) (a .x + at-loop .loop .i)
+    (c .before .sample-at .ensures .0)
+    (shows (c .before))
+    (c .plain-entry .ensures (a .normal .now) overlay))
+
+same-length : tie.Need-same-length Inv-loop μ-loop
+same-length c = c .before .loop .inv [] .long
+
+returns : tie.Need-returns Inv-loop μ-loop
+returns c = λ overlay. fill-over (c .before .loop .inv overlay) (c .loop-test .left)
+
+pub fill-mapped-spec : {M : Type 1} → statement M
+fill-mapped-spec =
+    tie.close
+    (tie.spec
+    Inv-loop
+    μ-loop
+    loop-holds
+    add-sample-at
+    sample-at-requires
+    add-plain-entry
+    plain-entry-requires
+    mul-out
+    slice-write-out
+    add-i
+    loop-less
+    loop-again
+    same-length
+    returns)
