@@ -124,7 +124,7 @@ by-shifts value width fits h =
 abbrev pub byteOf : ℕ → ℕ → ℕ
 byteOf word i = word / 2 ^ (8 * i) % 256
 
--- a word whose bytes are every number of 3 bits, widened, has a number's in its byte
+-- of a word whose bytes are the numbers of 3 bits, widened, byte `value` is that number, widened
 pub by-table : (table value : ℕ) → values (byteOf table) 8 0 ≡ values (λ v. widened v 3) 8 0 → value < 8 → byteOf table value ≡ widened value 3
 by-table table value computed h = same-values (byteOf table) (λ v. widened v 3) 8 computed value h
 
