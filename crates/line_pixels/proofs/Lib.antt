@@ -4,6 +4,7 @@ pub mod CursorCases
 pub mod CursorShows
 pub mod CellsInMemory
 pub mod LayersCases
+pub mod PlainRuns
 pub mod PixelShows
 pub mod NormalShows
 pub mod GammaReads

@@ -1,26 +1,23 @@
 -- `line_pixels::mapped::fill_mapped` meets its contract: each pixel gets the map entry that its index shows. Assumes nothing.
-use Prim.Native.Nat.{ℕ, _+_, _-_, _≤_, _<_}
+use Prim.Native.Nat.{ℕ, _+_, _-_, _<_}
 use mathlib.Core.Path.{_≡_, ap, _∙_}
-use mathlib.Core.List.{List, []}
+use mathlib.Core.List.{[]}
 use native.Mathlib.Nat.{div-one, mod-eq-of-lt}
 use native.Mathlib.Omega.{arith}
-use Rattle.rules.specs.Rule.{value}
-use Rattle.rules.proofs.Fill.{Filling, fill-start, fill-next, fill-over}
+use Rattle.rules.proofs.Fill.{fill-start, fill-over}
 use Rattle.words.specs.Field.{bits}
 use Rattle.line_colour.specs.Shown.{shownOf}
 use Rattle.line_colour.specs.declared.entry.Shown.the-variants.{MapEntry}
 use Rattle.line_colour.proofs.Defined.{map-entry-below}
-use Rattle.line_pixels.specs.Cells.{pixelView}
-use Rattle.line_pixels.specs.Colour.{plainAt}
-use Rattle.line_pixels.proofs.Rows.{said-says, plain-before, pixels-le}
-use Rattle.line_pixels.proofs.LayersCases.{plain-of-shown}
+use Rattle.line_pixels.proofs.Rows.{said-says, pixels-le}
+use Rattle.line_pixels.proofs.PlainRuns.{FillingPlain, pixel-lent, plain-next}
 use Rattle.line_pixels.proofs.mapped.fill_mapped.Statement.{statement}
 use Rattle.line_pixels.proofs.mapped.fill_mapped.Tie as tie
 
--- the pixels before i are filled with their plain colours, whatever the overlay row holds
+-- the pixels before i are filled with their plain colours
 abbrev Inv-loop : tie.InvT-loop
 Inv-loop depth sampling first store normal x count out₀ bypass i₀ out i =
-    (overlay : List ℕ) → Filling (λ p. value (pixelView store normal overlay) (plainAt depth (sampling .entry) p)) x count out₀ out i
+    FillingPlain depth (sampling .entry) store normal x count out₀ out i
 
 -- the pixels that are left
 abbrev μ-loop : tie.MeasureT-loop
@@ -55,8 +52,7 @@ add-sample-at c = omega (arith, pixels-le (start-of (c .before) .pre .0))
 sample-at-requires : tie.Need-sample-at-requires Inv-loop μ-loop
 sample-at-requires c κs =
     let start = start-of (c .before) in
-    let before : start .args .x + c .before .loop .i + 1 ≤ start .args .x + start .args .count = omega (arith, c .loop-test .taken) in
-    (start .pre .0 .said, start .pre .1, plain-before (start .pre .0) before .normal-long)
+    (start .pre .0 .said, start .pre .1, pixel-lent (start .args .x) (start .pre .0) (c .loop-test .taken))
 
 add-plain-entry : tie.Need-add-plain-entry Inv-loop μ-loop
 add-plain-entry c = omega (arith, in-map c)
@@ -80,12 +76,10 @@ loop-again : tie.Need-loop-again Inv-loop μ-loop
 loop-again c =
     let at-loop = c .before .before .before in
     let a = start-of at-loop .args in
-    λ overlay.
-    fill-next (at-loop .loop .inv overlay) (c .before .before .loop-test .taken)
-    (plain-of-shown (pixelView (a .store .now) (a .normal .now) overlay) (a .depth) (a .sampling .entry) (a .x + at-loop .loop .i)
+    plain-next (a .depth) (a .sampling .entry) (a .store .now) (a .normal .now) (at-loop .loop .inv) (c .before .before .loop-test .taken)
     (c .before .sample-at .ensures .0)
     (shows (c .before))
-    (c .plain-entry .ensures (a .normal .now) overlay))
+    (c .plain-entry .ensures)
 
 same-length : tie.Need-same-length Inv-loop μ-loop
 same-length c = c .before .loop .inv [] .long
