@@ -1,8 +1,8 @@
--- What holds of every defined entry: its depth is listed, its sample lies within the pixel, and it shows no map entry past the last. Assumes nothing.
+-- What holds of every defined entry: its depth is listed, its sample starts at a half of the pixel and lies within it, and it shows no map entry past the last. Assumes nothing.
 use Prim.Native.Nat.{ℕ, _+_, _/_, _≤_, _<_}
 use mathlib.Core.Path.{_≡_, refl}
 use mathlib.Core.Bool.{Bool, true, false, cond}
-use mathlib.Core.Logic.{_⊎_, ⊎-elim}
+use mathlib.Core.Logic.{_⊎_, inl, inr, ⊎-elim}
 use native.Mathlib.Omega.{arith}
 use native.Mathlib.Nat.{mod-lt}
 use borrow.Author.Tests.{leb-true}
@@ -26,18 +26,23 @@ use Rattle.line_colour.proofs.Decode.{defined-passed}
 pub record Says (depth : ℕ) (entry : WindowEntry) : Type 0 where
   pub at-depth : (depth ≡ 16) ⊎ (depth ≡ 32)
   pub low-lt : entry .low < 32
+  pub low-is : (entry .low ≡ 0) ⊎ (entry .low ≡ depth / 2)
   pub within : entry .low + widthsOf (entry .format) .bits ≤ depth
   pub in-bank : hasBank (entry .format) (entry .bank) ≡ true
 
 module _ (depth buffer : ℕ) where
-  -- bit 0 or the bit at half the depth, by a test: neither is above half the depth
-  low-by : (test : Bool) → cond test 0 (depth / 2) ≤ depth / 2
-  low-by true = omega arith
-  low-by false = omega arith
+  -- bit 0 or the bit at half the depth, by a test
+  low-by : (test : Bool) → (cond test 0 (depth / 2) ≡ 0) ⊎ (cond test 0 (depth / 2) ≡ depth / 2)
+  low-by true = inl refl
+  low-by false = inr refl
 
-  -- the lowest bit of a buffer is at most half the depth
+  -- the lowest bit of a buffer is bit 0 or the bit at half the depth
+  low-of : (lowOf depth buffer ≡ 0) ⊎ (lowOf depth buffer ≡ depth / 2)
+  low-of = low-by (eqb buffer 0)
+
+  -- neither is above half the depth
   low-le : lowOf depth buffer ≤ depth / 2
-  low-le = low-by (eqb buffer 0)
+  low-le = ⊎-elim (λ e. omega arith) (λ e. omega arith) low-of
 
   -- at depth 16 or 32 the lowest bit of a buffer is below 32
   low-lt-32 : (depth ≡ 16) ⊎ (depth ≡ 32) → lowOf depth buffer < 32
@@ -71,6 +76,7 @@ defined-says number depth e =
     (record {
       at-depth = at;
       low-lt = low-lt-32 depth (field number 0 0) at;
+      low-is = low-of depth (field number 0 0);
       within = lies-within depth (field number 0 0) format at (passed .has .in-buffer);
       in-bank = passed .has .in-bank;
     })

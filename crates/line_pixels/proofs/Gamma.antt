@@ -9,6 +9,7 @@ use lib.Dec.{lit<}
 use lib.ListN.{getD, take, drop}
 use lib.Seq.{getD-take, getD-drop}
 use Rattle.rules.specs.Rule.{value}
+use Rattle.rules.proofs.Change.{changed-none}
 use Rattle.words.specs.Field.{bits, field}
 use Rattle.words.specs.Channels.{channelsOf, wordOf}
 use Rattle.words.specs.declared.Rgb.{Rgb}
@@ -17,6 +18,7 @@ use Rattle.chip_registers.specs.declared.Block.the-variants.{GammaMap}
 use Rattle.line_colour.specs.Gamma.{corrected}
 use Rattle.line_pixels.specs.Cells.{PixelCell, pixelView}
 use Rattle.line_pixels.specs.Colour.{throughGamma}
+use Rattle.line_pixels.specs.Inner.{Corrected}
 
 -- the gamma words of a store
 abbrev pub gammaWords : List ℕ → List ℕ
@@ -40,6 +42,13 @@ channels-of-gamma store i h =
 pub gamma-skipped : (memory : PixelCell → ℕ) (word : ℕ) {skips : Bool} → skips ≡ true → word ≡ value memory (throughGamma skips word)
 unfolding throughGamma
 gamma-skipped memory word e = rw e
+
+-- words that skip gamma stay as they are
+pub words-skipped : (store before : List ℕ) (count : ℕ) {skips : Bool} → skips ≡ true → Corrected store skips before count before
+words-skipped store before count {skips} e =
+    λ normal overlay.
+    let memory = pixelView store normal overlay in
+    sym (changed-none (λ _ word. value memory (throughGamma skips word)) 0 count 0 before (λ i below. sym (gamma-skipped memory (getD before i 0) e)))
 
 -- a colour that doesn't skip gamma is corrected by the gamma words of the store
 pub gamma-applied : (store normal overlay : List ℕ) (word : ℕ) {skips : Bool} → skips ≡ false

@@ -1,10 +1,14 @@
 pub mod Rows
+pub mod Halves
 pub mod Gamma
+pub mod GammaTables
 pub mod CursorCases
 pub mod CursorShows
 pub mod CellsInMemory
 pub mod LayersCases
-pub mod PlainRuns
+pub mod Colours
+pub mod NormalRuns
+pub mod RgbRuns
 pub mod PixelShows
 pub mod NormalShows
 pub mod GammaReads

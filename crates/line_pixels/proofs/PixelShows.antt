@@ -13,7 +13,7 @@ use Rattle.line_pixels.specs.Cells.{Channel, inRed, inGreen, inBlue, cha
 use Rattle.line_pixels.specs.Colour.{throughGamma, normalAt, overlayCounts, underCursor, colourOfPixel}
 use Rattle.line_pixels.specs.declared.Screen.{Screen}
 use Rattle.line_pixels.proofs.Gamma.{gamma-skipped}
-use Rattle.line_pixels.proofs.LayersCases.{plain-of-normal, overlay-byte, overlay-none, under-clear, under-overlay, colour-under, colour-of-cursor}
+use Rattle.line_pixels.proofs.LayersCases.{plain-of-normal, overlay-byte, overlay-none, under-clear, under-overlay, colour-under, colour-of-cursor, overlay-of-map, cursor-of-store}
 use Rattle.line_pixels.proofs.CursorShows.{CursorShows, shows-answered}
 
 -- the colour under the cursor before gamma: of overlay map entry 4,352 + byte, where both switches are on and the byte is not 0; else the normal colour
@@ -60,7 +60,8 @@ module _ (memory : PixelCell → ℕ) (screen : Screen) (entry : WindowEntry) (x
   -- what shows under the cursor is the colour there through gamma
   pub beneath-through : {word : ℕ} → Beneath memory screen entry x word → value memory (throughGamma (entry .bypass) word) ≡ value memory (underCursor screen entry x)
   beneath-through (of-overlay on allowed some is) =
-      under-overlay memory screen entry x (overlay-byte memory screen entry x (switches-on on allowed)) some is refl
+      under-overlay memory screen entry x (overlay-byte memory screen entry x (switches-on on allowed)) some
+      (overlay-of-map memory entry (memory (overlayByte x)) is refl)
   beneath-through (of-normal (inl off) is) =
       under-clear memory screen entry x (overlay-none memory screen entry x (switch-off (inl off))) refl (plain-of-normal memory (screen .depth) entry x is refl)
   beneath-through (of-normal (inr (inl off)) is) =
@@ -78,7 +79,8 @@ module _ (memory : PixelCell → ℕ) (screen : Screen) (entry : WindowEntry) (x
   pub cursor-colour-shown : {number : ℕ} → CursorShows memory screen x number → number ≢ 0
       → value memory (colourOfPixel screen entry x) ≡ memory (cursorColour number)
   cursor-colour-shown {number} shows some =
-      sym (colour-of-cursor memory screen entry x (sym (shows-answered memory screen x shows)) some refl (gamma-skipped memory (memory (cursorColour number)) refl))
+      sym (colour-of-cursor memory screen entry x (sym (shows-answered memory screen x shows)) some
+      (cursor-of-store memory screen entry number refl (gamma-skipped memory (memory (cursorColour number)) refl)))
 
   module _ (transparent : CursorShows memory screen x 0) {word : ℕ} (beneath : Beneath memory screen entry x word) where
     -- where the cursor shows none, the pixel has the colour under it through gamma

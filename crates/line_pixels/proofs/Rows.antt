@@ -9,7 +9,7 @@ use lib.ListN.{length}
 use Rattle.line_colour.specs.declared.entry.WindowEntry.{WindowEntry}
 use Rattle.line_colour.proofs.Defined.{Says, defined-says}
 use Rattle.line_pixels.specs.Colour.{SaidAt}
-use Rattle.line_pixels.specs.Inner.{PlainLent, PixelsLent}
+use Rattle.line_pixels.specs.Inner.{RowLent, PlainLent, PixelsLent}
 use Rattle.line_pixels.specs.declared.Screen.{Screen}
 
 -- what some window entry says at a depth fits the depth
@@ -25,6 +25,19 @@ module _ (depth x : ℕ) {long : ℕ} where
   pub two-bytes : depth ≡ 16 → (x + 1) * (depth / 8) ≤ long → 2 * x + 2 ≤ long
   two-bytes is h = let h′ : (x + 1) * 2 ≤ long = rw is at h in omega arith
 
+module _ (depth : ℕ) (entry : WindowEntry) (normal : List ℕ) {end : ℕ} (lent : RowLent depth entry normal end) where
+  -- a row that has the pixels of a run has those before each of them
+  pub row-before : {before : ℕ} → before ≤ end → before * (depth / 8) ≤ length normal
+  row-before le = le-trans (mul-le-mul-right (depth / 8) le) (lent .1)
+
+  -- it has no fewer bytes than pixels
+  pub pixels-in-row : end ≤ length normal
+  pixels-in-row =
+      ⊎-elim
+      (λ is. let h : end * 2 ≤ length normal = rw is at (lent .1) in omega arith)
+      (λ is. let h : end * 4 ≤ length normal = rw is at (lent .1) in omega arith)
+      (said-says depth entry (lent .0) .at-depth)
+
 module _ {depth end : ℕ} {entry : WindowEntry} {store normal : List ℕ} (lent : PlainLent depth entry store normal end) where
   -- what is lent for a run is lent for each pixel of it
   pub plain-before : {before : ℕ} → before ≤ end → PlainLent depth entry store normal before
@@ -32,16 +45,12 @@ module _ {depth end : ℕ} {entry : WindowEntry} {store normal : List ℕ} (lent
       record {
         said = lent .said;
         store-long = lent .store-long;
-        normal-long = le-trans (mul-le-mul-right (depth / 8) le) (lent .normal-long);
+        normal-long = row-before depth entry normal (lent .said, lent .normal-long) le;
       }
 
   -- the normal row has no fewer bytes than pixels
   pub pixels-le : end ≤ length normal
-  pixels-le =
-      ⊎-elim
-      (λ is. let h : end * 2 ≤ length normal = rw is at (lent .normal-long) in omega arith)
-      (λ is. let h : end * 4 ≤ length normal = rw is at (lent .normal-long) in omega arith)
-      (said-says depth entry (lent .said) .at-depth)
+  pixels-le = pixels-in-row depth entry normal (lent .said, lent .normal-long)
 
 -- what is lent for a run with overlay is lent for each pixel of it
 pub pixels-before : {screen : Screen} {entry : WindowEntry} {store normal overlay : List ℕ} {end before : ℕ}

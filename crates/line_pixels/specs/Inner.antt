@@ -1,17 +1,18 @@
 -- What the functions inside ask of lent memory, and say of a rule that looks at a part of it.
-use Prim.Native.Nat.{ℕ, _+_, _*_, _/_, _≤_, _<_}
+use Prim.Native.Nat.{ℕ, _+_, _*_, _/_, _%_, _≤_, _<_}
 use mathlib.Core.Path.{_≡_}
-use mathlib.Core.Bool.{Bool, true, false}
+use mathlib.Core.Bool.{Bool, true, false, cond}
 use mathlib.Core.Logic.{_⊎_}
 use mathlib.Core.List.{List}
-use lib.ListN.{length}
-use Rattle.rules.specs.Rule.{Rule, value}
-use Rattle.rules.specs.Lists.{filled}
+use lib.Dec.{eqb}
+use lib.ListN.{length, getD}
+use Rattle.rules.specs.Rule.{Rule, done, value, _>>=_}
+use Rattle.rules.specs.Lists.{filled, changed}
 use Rattle.chip_registers.specs.Store.{storeLength}
 use Rattle.line_colour.specs.declared.entry.WindowEntry.{WindowEntry}
 use Rattle.line_pixels.specs.Cells.{PixelCell, pixelView}
 use Rattle.line_pixels.specs.Cursor.{cursorAt}
-use Rattle.line_pixels.specs.Colour.{SaidAt, plainAt, overlayCounts, colourOfPixel}
+use Rattle.line_pixels.specs.Colour.{SaidAt, throughGamma, normalAt, plainAt, overlaid, overlayCounts, underCursor, cursorShown, colourOfPixel}
 use Rattle.line_pixels.specs.declared.Screen.{Screen}
 
 -- enough is lent for the plain colour of each pixel before `end`: the entry is said at the depth, the store is whole, and the normal row has those pixels
@@ -19,6 +20,10 @@ pub record PlainLent (depth : ℕ) (entry : WindowEntry) (store normal : List �
   pub said : SaidAt depth entry
   pub store-long : length store ≡ storeLength
   pub normal-long : end * (depth / 8) ≤ length normal
+
+-- the normal row has each pixel before `end`, at the depth at which the entry is said
+abbrev pub RowLent : ℕ → WindowEntry → List ℕ → ℕ → Type 0
+RowLent depth entry normal end = SaidAt depth entry × (end * (depth / 8) ≤ length normal)
 
 -- the overlay row has each pixel before `end`, where overlay counts
 abbrev pub OverlayLent : Screen → WindowEntry → List ℕ → ℕ → Type 0
@@ -46,17 +51,81 @@ abbrev pub Among : ℕ → ℕ → ℕ → Bool → Type 0
 Among place first count is =
     (is ≡ true → (first ≤ place) × (place < first + count)) × (is ≡ false → (place < first) ⊎ (first + count ≤ place))
 
--- a test that fails only where no cursor colour shows at any of `count` pixels from x on
-abbrev pub NoneNear : Screen → ℕ → ℕ → Bool → Type 0
-NoneNear screen x count near =
-    near ≡ false → (p : ℕ) → x ≤ p → p < x + count → (memory : PixelCell → ℕ) → value memory (cursorAt screen p) ≡ 0
-
--- a test that passes only where the plain colour shows at each of `count` pixels from x on
-abbrev pub OnlyPlain : Screen → WindowEntry → ℕ → ℕ → Bool → Type 0
-OnlyPlain screen entry x count plain =
-    plain ≡ true → (p : ℕ) → x ≤ p → p < x + count → (memory : PixelCell → ℕ) → value memory (plainAt (screen .depth) entry p) ≡ value memory (colourOfPixel screen entry p)
-
 -- a run filled with plain colours, whatever the overlay row holds
 abbrev pub FilledPlain : ℕ → WindowEntry → List ℕ → List ℕ → ℕ → ℕ → List ℕ → List ℕ → Type 0
 FilledPlain depth entry store normal x count before after =
     (overlay : List ℕ) → after ≡ filled (λ p. value (pixelView store normal overlay) (plainAt depth entry p)) x before count
+
+-- a run filled with normal colours, whatever the overlay row holds
+abbrev pub FilledNormal : ℕ → WindowEntry → List ℕ → List ℕ → ℕ → ℕ → List ℕ → List ℕ → Type 0
+FilledNormal depth entry store normal x count before after =
+    (overlay : List ℕ) → after ≡ filled (λ p. value (pixelView store normal overlay) (normalAt depth entry p)) x before count
+
+-- a run filled with what is under the cursor
+abbrev pub FilledUnder : Screen → WindowEntry → List ℕ → List ℕ → List ℕ → ℕ → ℕ → List ℕ → List ℕ → Type 0
+FilledUnder screen entry store normal overlay x count before after =
+    after ≡ filled (λ p. value (pixelView store normal overlay) (underCursor screen entry p)) x before count
+
+-- a run filled with the colours of its pixels
+abbrev pub FilledPixels : Screen → WindowEntry → List ℕ → List ℕ → List ℕ → ℕ → ℕ → List ℕ → List ℕ → Type 0
+FilledPixels screen entry store normal overlay x count before after =
+    after ≡ filled (λ p. value (pixelView store normal overlay) (colourOfPixel screen entry p)) x before count
+
+-- the first `count` words gone through gamma, unless they bypass it, whatever the rows hold
+abbrev pub Corrected : List ℕ → Bool → List ℕ → ℕ → List ℕ → Type 0
+Corrected store bypass before count after =
+    (normal overlay : List ℕ) → after ≡ changed (λ _ word. value (pixelView store normal overlay) (throughGamma bypass word)) 0 before count
+
+-- the red of gamma word k, where it stands in a colour
+abbrev pub gammaRed : List ℕ → ℕ → ℕ
+gammaRed store k = getD store (4640 + k) 0 / 65536 % 256 * 65536
+
+-- the green of gamma word k, where it stands in a colour
+abbrev pub gammaGreen : List ℕ → ℕ → ℕ
+gammaGreen store k = getD store (4640 + k) 0 / 256 % 256 * 256
+
+-- the blue of gamma word k, where it stands in a colour
+abbrev pub gammaBlue : List ℕ → ℕ → ℕ
+gammaBlue store k = getD store (4640 + k) 0 % 256
+
+-- word k of three tables is a channel of gamma word k, where it stands in a colour
+pub record SplitAt (store red green blue : List ℕ) (k : ℕ) : Type 0 where
+  pub in-red : getD red k 0 ≡ gammaRed store k
+  pub in-green : getD green k 0 ≡ gammaGreen store k
+  pub in-blue : getD blue k 0 ≡ gammaBlue store k
+
+-- 256 words of three tables are the channels of the gamma words
+abbrev pub SplitBy : List ℕ → List ℕ → List ℕ → List ℕ → Type 0
+SplitBy store red green blue = (k : ℕ) → k < 256 → SplitAt store red green blue k
+
+-- no word of three tables is more than a channel, where it stands in a colour
+abbrev pub TablesFit : List ℕ → List ℕ → List ℕ → Type 0
+TablesFit red green blue = (k : ℕ) → k < 256 → (getD red k 0 ≤ 255 * 65536) × (getD green k 0 ≤ 255 * 256) × (getD blue k 0 ≤ 255)
+
+-- a word through three tables, each indexed by a channel
+abbrev pub byTables : List ℕ → List ℕ → List ℕ → ℕ → ℕ
+byTables red green blue word = getD red (word / 65536 % 256) 0 + getD green (word / 256 % 256) 0 + getD blue (word % 256) 0
+
+-- the colour of an overlay byte, or what is under it where the byte is 0
+unfoldable pub overlaidOr : WindowEntry → ℕ → ℕ → Rule ⊥ PixelCell ℕ
+overlaidOr entry byte under = cond (eqb byte 0) (done under) (overlaid entry byte)
+
+-- overlay over the first `count` words of a run from x on, whatever the normal row holds
+abbrev pub Overlaid : WindowEntry → List ℕ → List ℕ → ℕ → List ℕ → ℕ → List ℕ → Type 0
+Overlaid entry store overlay x before count after =
+    (normal : List ℕ) → after ≡ changed (λ p under. value (pixelView store normal overlay) (overlaidOr entry (getD overlay p 0) under)) x before count
+
+-- a byte's colour among 256, or what is under it where the byte is 0
+abbrev pub overlaidBy : List ℕ → ℕ → ℕ → ℕ
+overlaidBy colours byte under = cond (eqb byte 0) under (getD colours byte 0)
+
+-- the cursor colour of a pixel, or what is under it where none shows
+unfoldable pub cursorOr : Screen → WindowEntry → ℕ → ℕ → Rule ⊥ PixelCell ℕ
+cursorOr screen entry x under = do
+  number ← cursorAt screen x
+  cond (eqb number 0) (done under) (cursorShown screen entry number)
+
+-- the cursor over the first `count` words of a run from x on, whatever the rows hold
+abbrev pub CursorLaid : Screen → WindowEntry → List ℕ → ℕ → List ℕ → ℕ → List ℕ → Type 0
+CursorLaid screen entry store x before count after =
+    (normal overlay : List ℕ) → after ≡ changed (λ p under. value (pixelView store normal overlay) (cursorOr screen entry p under)) x before count

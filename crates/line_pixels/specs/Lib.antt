@@ -3,3 +3,4 @@ pub mod Sampling
 pub mod Cursor
 pub mod Colour
 pub mod Inner
+pub mod Spans

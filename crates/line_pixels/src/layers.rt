@@ -7,7 +7,7 @@ ghost use Rattle.rules.specs.Rule.{get, value};
 ghost use Rattle.chip_registers.specs.Blocks.{count};
 ghost use Rattle.chip_registers.specs.Store.{storeLength};
 ghost use Rattle.line_pixels.specs.Cells.{mapEntry, pixelWord, pixelView};
-ghost use Rattle.line_pixels.specs.Colour.{cursorSkipsGamma, throughGamma, normalAt, plainAt, overlayCounts, overlayAt, underCursor, colourOfPixel};
+ghost use Rattle.line_pixels.specs.Colour.{cursorSkipsGamma, throughGamma, normalAt, plainAt, overlaid, overlayCounts, overlayAt, underCursor, cursorShown, colourOfPixel};
 ghost use Rattle.line_pixels.specs.Sampling.{samplingOf};
 ghost use Rattle.line_pixels.specs.Inner.{PlainLent, OverlayLent, PixelsLent, OverStore, OverNormal, OverOverlay};
 use crate::Screen;
@@ -25,7 +25,7 @@ use line_formats::Index12;
 use words::Rgb;
 
 // The map entry of overlay byte 0: the overlay colours stand from it on.
-const OVERLAY_COLOURS: u32 = 4352;
+pub(crate) const OVERLAY_COLOURS: u32 = 4352;
 
 // A pixel of the normal row, all bits of it.
 pub(crate) fn pixel_word(depth: u32, normal: &[u8], x: usize) -> u32
@@ -96,6 +96,14 @@ fn plain_at(depth: u32, sampling: Sampling, store: &[u32], normal: &[u8], x: usi
     through_gamma(store, sampling.entry.bypass, colour)
 }
 
+// The colour of an overlay byte.
+pub(crate) fn overlay_shown(entry: WindowEntry, store: &[u32], byte: u32) -> u32
+    requires { ⌜ (length (now store) ≡ storeLength) × (byte < 256) ⌝ }
+    ensures { λ r. ⌜ OverStore (now (store .entry)) (overlaid entry byte) r ⌝ }
+{
+    through_gamma(store, entry.bypass, mapped(store, OVERLAY_COLOURS + byte))
+}
+
 impl Screen {
     // Whether overlay is looked at: the control word and the entry both say so.
     pub(crate) fn overlay_counts(self, entry: WindowEntry) -> bool
@@ -131,7 +139,7 @@ impl Screen {
         if byte == 0 {
             return plain_at(self.depth, Sampling::of(entry), store, normal, x);
         }
-        through_gamma(store, entry.bypass, mapped(store, OVERLAY_COLOURS + byte))
+        overlay_shown(entry, store, byte)
     }
 
     // Whether a cursor colour over a window entry is shown as it is stored: each is.
@@ -139,6 +147,19 @@ impl Screen {
         ensures { λ r. ⌜ r ≡ cursorSkipsGamma self entry ⌝ }
     {
         true
+    }
+
+    // A cursor colour over a window entry.
+    pub(crate) fn cursor_shown(self, entry: WindowEntry, store: &[u32], number: u32) -> u32
+        requires { ⌜ (length (now store) ≡ storeLength) × (1 ≤ number) × (number < 4) ⌝ }
+        ensures { λ r. ⌜ OverStore (now (store .entry)) (cursorShown self entry number) r ⌝ }
+    {
+        let register = Register {
+            block: Block::CursorColours,
+            word: number - 1,
+        };
+        let colour = stored(store, register);
+        through_gamma(store, self.cursor_skips_gamma(entry), colour)
     }
 
     // The colour of a pixel.
@@ -157,11 +178,6 @@ impl Screen {
         if number == 0 {
             return self.under_cursor(entry, store, normal, overlay, x);
         }
-        let register = Register {
-            block: Block::CursorColours,
-            word: number - 1,
-        };
-        let colour = stored(store, register);
-        through_gamma(store, self.cursor_skips_gamma(entry), colour)
+        self.cursor_shown(entry, store, number)
     }
 }

@@ -1,8 +1,13 @@
 // Pixels: the colour that each pixel of a line shows, and runs of them.
+mod bytes;
+mod correction;
 mod cursor;
 pub mod fill;
+mod fours;
 mod layers;
+mod looked_up;
 mod mapped;
+mod overlay;
 mod rgb;
 mod rgb_332;
 mod sampling;

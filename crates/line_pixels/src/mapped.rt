@@ -1,31 +1,33 @@
-// Runs of indices: each sample shows an entry of the colour map, counted from a first one.
+// Indices: each sample shows an entry of the colour map, counted from a first one.
 ghost use Prim.Native.Nat.{ℕ, _+_, _≤_, _<_};
 ghost use mathlib.Core.Path.{_≡_};
-ghost use lib.ListN.{length};
-ghost use Rattle.rules.specs.Rule.{get, _>>=_ as _then_};
+ghost use lib.ListN.{length, getD};
+ghost use Rattle.rules.specs.Rule.{get};
 ghost use Rattle.words.specs.Field.{bits};
 ghost use Rattle.chip_registers.specs.Blocks.{count};
 ghost use Rattle.chip_registers.specs.Store.{storeLength};
 ghost use Rattle.line_colour.specs.Shown.{shownOf};
 ghost use Rattle.line_colour.specs.declared.entry.Shown.the-variants.{MapEntry};
 ghost use Rattle.line_pixels.specs.Cells.{mapEntry};
-ghost use Rattle.line_pixels.specs.Colour.{throughGamma};
 ghost use Rattle.line_pixels.specs.Sampling.{samplingOf};
-ghost use Rattle.line_pixels.specs.Inner.{PlainLent, OverStore, FilledPlain};
+ghost use Rattle.line_pixels.specs.Inner.{PlainLent, OverStore, FilledNormal};
 use crate::layers::mapped;
-use crate::layers::through_gamma;
 use crate::sampling::Sampling;
 use chip_registers::Block;
 
-// The colour of a map entry, through gamma unless it is bypassed.
-fn plain_entry(store: &[u32], bypass: bool, number: u32) -> u32
-    requires { ⌜ (length (now store) ≡ storeLength) × (number < count Block.ColourMap) ⌝ }
-    ensures { λ r. ⌜ OverStore (now (store .entry)) (get (mapEntry number) then throughGamma bypass) r ⌝ }
+// The 256 colours of the map from entry `first` on.
+pub(crate) fn map_colours(store: &[u32], first: u32, colours: &mut [u32; 256])
+    requires { ⌜ (length (now store) ≡ storeLength) × (first + 256 ≤ count Block.ColourMap) × (length (now colours) ≡ 256) ⌝ }
+    ensures { λ _. ⌜ (length (now (colours .exit)) ≡ 256) × ((k : ℕ) → k < 256 → OverStore (now (store .entry)) (get (mapEntry (first + k))) (getD (now (colours .exit)) k 0)) ⌝ }
 {
-    through_gamma(store, bypass, mapped(store, number))
+    let mut k = 0;
+    while k < 256 {
+        colours[k] = mapped(store, first + k as u32);
+        k += 1;
+    }
 }
 
-// A plain run of indices, counted from map entry `first`.
+// A run of indices, counted from map entry `first`.
 pub(crate) fn fill_mapped(
     depth: u32,
     sampling: Sampling,
@@ -37,13 +39,12 @@ pub(crate) fn fill_mapped(
     out: &mut [u32],
 )
     requires { ⌜ PlainLent depth (sampling .entry) (now store) (now normal) (x + count) × (sampling ≡ samplingOf (sampling .entry)) × ((sample : ℕ) → shownOf (sampling .entry) sample ≡ MapEntry (first + bits sample 0 (sampling .bits))) × (count ≤ length (now out)) ⌝ }
-    ensures { λ _. ⌜ FilledPlain depth (sampling .entry) (now (store .entry)) (now (normal .entry)) x count (now (out .entry)) (now (out .exit)) ⌝ }
+    ensures { λ _. ⌜ FilledNormal depth (sampling .entry) (now (store .entry)) (now (normal .entry)) x count (now (out .entry)) (now (out .exit)) ⌝ }
 {
-    let bypass = sampling.entry.bypass;
     let mut i = 0;
     while i < count {
         let index = sampling.sample_at(depth, normal, x + i);
-        out[i] = plain_entry(store, bypass, first + index);
+        out[i] = mapped(store, first + index);
         i += 1;
     }
 }

@@ -1,64 +1,114 @@
-// Runs in RGB 4-4-4, 5-5-5 and 8-8-8: each colour is worked out for its pixel.
-ghost use Prim.Native.Nat.{_+_, _≤_};
+// Runs in RGB 4-4-4, 5-5-5 and 8-8-8: each colour is worked out for its pixel, of its bytes as they are loaded, so that a turn of the loop does many pixels at once.
+ghost use Prim.Native.Nat.{ℕ, _+_, _*_, _/_, _%_, _≤_, _<_};
 ghost use mathlib.Core.Path.{_≡_};
+ghost use mathlib.Core.List.{List};
 ghost use mathlib.Core.Logic.{_⊎_};
 ghost use lib.ListN.{length};
+ghost use Rattle.rules.specs.Lists.{filled};
+ghost use Rattle.words.specs.Bytes.{bigEndian};
 ghost use Rattle.words.specs.Channels.{wordOf};
-ghost use Rattle.chip_registers.specs.Store.{storeLength};
 ghost use Rattle.line_formats.specs.Table.{colourInFormat};
-ghost use Rattle.line_pixels.specs.Colour.{throughGamma};
-ghost use Rattle.line_pixels.specs.Sampling.{samplingOf};
-ghost use Rattle.line_pixels.specs.Inner.{PlainLent, OverStore, FilledPlain};
-use crate::layers::through_gamma;
-use crate::sampling::Sampling;
+ghost use Rattle.line_pixels.specs.Inner.{RowLent, FilledNormal};
+use crate::bytes::le16;
+use crate::bytes::le32;
+use line_colour::entry::WindowEntry;
 use line_formats::Format;
-use line_formats::Rgb444;
-use line_formats::Rgb555;
-use line_formats::Rgb888;
-use words::Rgb;
 
-// The colour of a sample.
-fn colour(format: Format, sample: u32) -> Rgb
-    requires { ⌜ (format ≡ Format.Rgb444) ⊎ (format ≡ Format.Rgb555) ⊎ (format ≡ Format.Rgb888) ⌝ }
-    ensures { λ r. ⌜ r ≡ colourInFormat format sample ⌝ }
+// The colour in RGB 4-4-4 of two bytes, the first here the lowest: one product widens all channels.
+fn word_444(half: u32) -> u32
+    requires { ⌜ half < 65536 ⌝ }
+    ensures { λ r. ⌜ r ≡ wordOf (colourInFormat Format.Rgb444 (half % 256 * 256 + half / 256)) ⌝ }
 {
-    match format {
-        Format::Rgb444 => Rgb444::colour(sample),
-        Format::Rgb555 => Rgb555::colour(sample),
-        // RGB 8-8-8 is all that is left.
-        Format::Rgb888 | Format::Index8 | Format::Index12 | Format::Rgb332 => Rgb888::colour(
-            sample,
-        ),
+    17 * (half / 256 % 16 * 65536 + half / 4096 * 256 + half % 16)
+}
+
+// A channel of five bits, widened.
+fn widened_5(value: u32) -> u32
+    requires { ⌜ value < 32 ⌝ }
+    ensures { λ r. ⌜ r ≡ 8 * value + value / 4 ⌝ }
+{
+    8 * value + value / 4
+}
+
+// The colour in RGB 5-5-5 of two bytes, the first here the lowest.
+fn word_555(half: u32) -> u32
+    requires { ⌜ half < 65536 ⌝ }
+    ensures { λ r. ⌜ r ≡ wordOf (colourInFormat Format.Rgb555 (half % 256 * 256 + half / 256)) ⌝ }
+{
+    let red = widened_5(half / 256 % 32);
+    let green = widened_5(half % 4 * 8 + half / 8192);
+    let blue = widened_5(half / 4 % 32);
+    red * 65536 + green * 256 + blue
+}
+
+// The colours in RGB 4-4-4 of two bytes each, which stand so many bytes apart.
+fn run_444(apart: usize, normal: &[u8], first: usize, count: usize, out: &mut [u32])
+    requires { ⌜ ((i : ℕ) → i < count → first + apart * i + 2 ≤ length (now normal)) × (count ≤ length (now out)) ⌝ }
+    ensures { λ _. ⌜ now (out .exit) ≡ filled (λ i. wordOf (colourInFormat Format.Rgb444 (bigEndian (now (normal .entry)) (first + apart * i) 2))) 0 (now (out .entry)) count ⌝ }
+{
+    let mut i = 0;
+    while i < count {
+        out[i] = word_444(le16(normal, first + apart * i));
+        i += 1;
     }
 }
 
-// The word of a colour, through gamma unless it is bypassed.
-pub(crate) fn plain_colour(store: &[u32], bypass: bool, colour: Rgb) -> u32
-    requires { ⌜ length (now store) ≡ storeLength ⌝ }
-    ensures { λ r. ⌜ OverStore (now (store .entry)) (throughGamma bypass (wordOf colour)) r ⌝ }
+// The colours in RGB 5-5-5 of two bytes each, which stand so many bytes apart.
+fn run_555(apart: usize, normal: &[u8], first: usize, count: usize, out: &mut [u32])
+    requires { ⌜ ((i : ℕ) → i < count → first + apart * i + 2 ≤ length (now normal)) × (count ≤ length (now out)) ⌝ }
+    ensures { λ _. ⌜ now (out .exit) ≡ filled (λ i. wordOf (colourInFormat Format.Rgb555 (bigEndian (now (normal .entry)) (first + apart * i) 2))) 0 (now (out .entry)) count ⌝ }
 {
-    through_gamma(store, bypass, colour.word())
+    let mut i = 0;
+    while i < count {
+        out[i] = word_555(le16(normal, first + apart * i));
+        i += 1;
+    }
 }
 
-// A plain run in RGB 4-4-4, 5-5-5 or 8-8-8.
+// The colours in RGB 8-8-8 of four bytes each: the channels stand as in a colour once the first byte is dropped.
+fn run_888(normal: &[u8], first: usize, count: usize, out: &mut [u32])
+    requires { ⌜ ((i : ℕ) → i < count → first + 4 * i + 4 ≤ length (now normal)) × (count ≤ length (now out)) ⌝ }
+    ensures { λ _. ⌜ now (out .exit) ≡ filled (λ i. wordOf (colourInFormat Format.Rgb888 (bigEndian (now (normal .entry)) (first + 4 * i) 4))) 0 (now (out .entry)) count ⌝ }
+{
+    let mut i = 0;
+    while i < count {
+        out[i] = le32(normal, first + 4 * i) / 256;
+        i += 1;
+    }
+}
+
+// A run in RGB 4-4-4, 5-5-5 or 8-8-8. How far pixels stand apart is said in each arm, since a loop does many at once only where that is fixed.
 pub(crate) fn fill_rgb(
     depth: u32,
-    sampling: Sampling,
-    store: &[u32],
+    entry: WindowEntry,
     normal: &[u8],
     x: usize,
     count: usize,
     out: &mut [u32],
 )
-    requires { ⌜ PlainLent depth (sampling .entry) (now store) (now normal) (x + count) × (sampling ≡ samplingOf (sampling .entry)) × ((sampling .entry .format ≡ Format.Rgb444) ⊎ (sampling .entry .format ≡ Format.Rgb555) ⊎ (sampling .entry .format ≡ Format.Rgb888)) × (count ≤ length (now out)) ⌝ }
-    ensures { λ _. ⌜ FilledPlain depth (sampling .entry) (now (store .entry)) (now (normal .entry)) x count (now (out .entry)) (now (out .exit)) ⌝ }
+    requires { ⌜ RowLent depth entry (now normal) (x + count) × ((entry .format ≡ Format.Rgb444) ⊎ (entry .format ≡ Format.Rgb555) ⊎ (entry .format ≡ Format.Rgb888)) × (count ≤ length (now out)) ⌝ }
+    ensures { λ _. ⌜ ((store : List ℕ) → FilledNormal depth entry store (now (normal .entry)) x count (now (out .entry)) (now (out .exit))) ⌝ }
 {
-    let entry = sampling.entry;
     let format = entry.format;
-    let mut i = 0;
-    while i < count {
-        let sample = sampling.sample_at(depth, normal, x + i);
-        out[i] = plain_colour(store, entry.bypass, colour(format, sample));
-        i += 1;
+    let high = (entry.low / 8) as usize;
+    match format {
+        Format::Rgb444 => {
+            if depth == 32 {
+                run_444(4, normal, 4 * x + 2 - high, count, out);
+            } else {
+                run_444(2, normal, 2 * x, count, out);
+            }
+        }
+        Format::Rgb555 => {
+            if depth == 32 {
+                run_555(4, normal, 4 * x + 2 - high, count, out);
+            } else {
+                run_555(2, normal, 2 * x, count, out);
+            }
+        }
+        // RGB 8-8-8 is all that is left.
+        Format::Rgb888 | Format::Index8 | Format::Index12 | Format::Rgb332 => {
+            run_888(normal, 4 * x, count, out);
+        }
     }
 }

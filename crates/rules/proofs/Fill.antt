@@ -42,6 +42,19 @@ module _ {A : Type 0} {at : ℕ → A} {from count : ℕ} {room : List A} where
     list = rw (fill .list, e, add-one i) (one-more at i from room (omega arith));
   }
 
+  -- four stores on
+  pub fill-four : {now : List A} {i : ℕ} {a b c d : A} → Filling at from count room now i → i + 4 ≤ count
+      → a ≡ at (from + i) → b ≡ at (from + (i + 1)) → c ≡ at (from + (i + 2)) → d ≡ at (from + (i + 3))
+      → Filling at from count room (set (set (set (set now i a) (i + 1) b) (i + 2) c) (i + 3) d) (i + 4)
+  fill-four {now} {i} {a} {b} {c} {d} fill more ea eb ec ed =
+      let two : i + 1 + 1 ≡ i + 2 = omega arith in
+      let three : i + 2 + 1 ≡ i + 3 = omega arith in
+      let four : i + 3 + 1 ≡ i + 4 = omega arith in
+      let first = fill-next fill (omega arith) ea in
+      let second : Filling at from count room (set (set now i a) (i + 1) b) (i + 2) = rw two at (fill-next first (omega arith) eb) in
+      let third : Filling at from count room (set (set (set now i a) (i + 1) b) (i + 2) c) (i + 3) = rw three at (fill-next second (omega arith) ec) in
+      rw four at (fill-next third (omega arith) ed)
+
   -- after the last store
   pub fill-over : {now : List A} {i : ℕ} → Filling at from count room now i → count ≤ i → now ≡ filled at from room count
   fill-over {now} {i} fill all = let e : i ≡ count = omega arith in rw (← e) (fill .list)
@@ -54,6 +67,15 @@ module _ {A : Type 0} (f g : ℕ → A) where
       ap₂ (λ (a : A) (rest : List A). a ∷ rest)
       (same from (omega arith) (omega arith))
       (values-same count (suc from) (λ p low high. same p (omega arith) (omega arith)))
+
+-- values counted from a start are those of the function counted from there
+values-from : {A : Type 0} (f : ℕ → A) (x count from : ℕ) → values (λ i. f (x + i)) count from ≡ values f count (x + from)
+values-from f x zero from = refl
+values-from {A} f x (suc count) from = ap {B = List A} (λ r. f (x + from) ∷ r) (values-from f x count (suc from) ∙ rw add-suc)
+
+-- a list filled with the values from a start on is filled with those of the function counted from there
+pub filled-from : {A : Type 0} (f : ℕ → A) (x : ℕ) (room : List A) (count : ℕ) → filled (λ i. f (x + i)) 0 room count ≡ filled f x room count
+filled-from {A} f x room count = let same : values (λ i. f (x + i)) count 0 ≡ values f count x = rw add-zero at (values-from f x count 0) in ap (λ (front : List A). front ++ drop count room) same
 
 -- two functions that agree on a run fill the same
 pub filled-same : {A : Type 0} (f g : ℕ → A) (from : ℕ) (room : List A) (count : ℕ)

@@ -9,6 +9,7 @@ pub mod Each
 pub mod EachReads
 pub mod EachOf
 pub mod Fill
+pub mod Change
 pub mod Asks
 pub mod Faults
 pub mod Checked

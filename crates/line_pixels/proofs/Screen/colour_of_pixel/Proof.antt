@@ -19,37 +19,18 @@ returns c =
     (c .before .if1 .taken)
     (c .under-cursor .ensures)
 
-sub-t12 : tie.Need-sub-t12
-sub-t12 c = search needs
-
-stored-requires : tie.Need-stored-requires
-stored-requires c κs = search needs
-
-cursor-skips-gamma-requires : tie.Need-cursor-skips-gamma-requires
-cursor-skips-gamma-requires c κs = search needs
-
-through-gamma-requires : tie.Need-through-gamma-requires
-through-gamma-requires c κs = search needs
+cursor-shown-requires : tie.Need-cursor-shown-requires
+cursor-shown-requires c κs = search needs
 
 returns-2 : tie.Need-returns-2
 returns-2 c =
-    let else = c .before .before .before in
-    let a = else .before .before .before .before .before .args in
+    let a = c .before .before .before .before .before .before .args in
     colour-of-cursor (pixelView (a .store .now) (a .normal .now) (a .overlay .now)) (a .self) (a .entry) (a .x)
-    (else .before .cursor-at .ensures .0 (a .normal .now) (a .overlay .now))
-    (else .if1 .left)
-    (c .before .before .stored .ensures)
-    (rw (c .before .cursor-skips-gamma .ensures) at (c .through-gamma .ensures (a .normal .now) (a .overlay .now)))
+    (c .before .before .cursor-at .ensures .0 (a .normal .now) (a .overlay .now))
+    (c .before .if1 .left)
+    (c .cursor-shown .ensures (a .normal .now) (a .overlay .now))
 
 pub colour-of-pixel-spec : {M : Type 1} → statement M
 colour-of-pixel-spec =
     tie.close
-    (tie.spec
-    cursor-at-requires
-    under-cursor-requires
-    returns
-    sub-t12
-    stored-requires
-    cursor-skips-gamma-requires
-    through-gamma-requires
-    returns-2)
+    (tie.spec cursor-at-requires under-cursor-requires returns cursor-shown-requires returns-2)

@@ -25,23 +25,16 @@ returns c =
     (c .before .before .if1 .taken)
     (rw (c .before .of .ensures) at (c .plain-at .ensures (a .overlay .now)))
 
-add-mapped : tie.Need-add-mapped
-add-mapped c = search needs
-
-mapped-requires : tie.Need-mapped-requires
-mapped-requires c κs = search needs
-
-through-gamma-requires : tie.Need-through-gamma-requires
-through-gamma-requires c κs = search needs
+overlay-shown-requires : tie.Need-overlay-shown-requires
+overlay-shown-requires c κs = search needs
 
 returns-2 : tie.Need-returns-2
 returns-2 c =
-    let a = c .before .before .before .before .before .before .before .args in
+    let a = c .before .before .before .before .before .before .args in
     under-overlay (pixelView (a .store .now) (a .normal .now) (a .overlay .now)) (a .self) (a .entry) (a .x)
-    (c .before .before .before .overlay-at .ensures .0 (a .store .now) (a .normal .now))
-    (c .before .before .if1 .left)
-    (c .before .mapped .ensures (a .normal .now) (a .overlay .now))
-    (c .through-gamma .ensures (a .normal .now) (a .overlay .now))
+    (c .before .before .overlay-at .ensures .0 (a .store .now) (a .normal .now))
+    (c .before .if1 .left)
+    (c .overlay-shown .ensures (a .normal .now) (a .overlay .now))
 
 pub under-cursor-spec : {M : Type 1} → statement M
 under-cursor-spec =
@@ -51,7 +44,5 @@ under-cursor-spec =
     of-requires
     plain-at-requires
     returns
-    add-mapped
-    mapped-requires
-    through-gamma-requires
+    overlay-shown-requires
     returns-2)

@@ -1,131 +1,62 @@
--- `line_pixels::fill::fill_plain` meets its contract: by the loop of its format. Assumes nothing.
-use mathlib.Core.Path.{refl}
-use mathlib.Core.Logic.{inl, inr}
+-- `line_pixels::fill::fill_plain` meets its contract: colours looked up in a long run of 8-bit samples, else the normal colours through gamma. Assumes nothing.
+use Prim.Native.Nat.{ℕ}
+use mathlib.Core.Path.{refl, _∙_}
 use borrow.Author.Needs.{needs}
-use Rattle.line_pixels.proofs.LayersCases.{shown-index8, shown-index12}
+use Rattle.rules.specs.Rule.{value}
+use Rattle.rules.proofs.Change.{changed-run, changed-anywhere}
+use Rattle.line_pixels.specs.Cells.{pixelView}
+use Rattle.line_pixels.specs.Colour.{throughGamma, normalAt, plainAt}
+use Rattle.line_pixels.proofs.LayersCases.{plain-of-normal}
 use Rattle.line_pixels.proofs.fill.fill_plain.Statement.{statement}
 use Rattle.line_pixels.proofs.fill.fill_plain.Tie as tie
 
-of-requires : tie.Need-of-requires
-of-requires c κs = search needs
+samples-of-8-requires : tie.Need-samples-of-8-requires
+samples-of-8-requires c κs = search needs
 
-enum-told : tie.Need-enum-told
-enum-told c = search needs
-
-map-entry-requires : tie.Need-map-entry-requires
-map-entry-requires c κs = search needs
-
-fill-mapped-requires : tie.Need-fill-mapped-requires
-fill-mapped-requires c κs =
-    let start = c .before .before .before .before .before .before .before .before in
+fill-looked-up-requires : tie.Need-fill-looked-up-requires
+fill-looked-up-requires c κs =
     let told = c .before .before in
-    rw (c .before .before .before .before .of .ensures)
-    (start .pre .0, refl, (λ sample. shown-index8 (start .args .entry) sample (told .enum-told .given .1) (c .before .map-entry .ensures)), start .pre .1)
-
-enum-told-2 : tie.Need-enum-told-2
-enum-told-2 c = search needs
-
-fill-mapped-requires-2 : tie.Need-fill-mapped-requires-2
-fill-mapped-requires-2 c κs =
-    let start = c .before .before .before .before .before .before .before in
-    rw (c .before .before .before .of .ensures)
-    (start .pre .0, refl, (λ sample. shown-index12 (start .args .entry) sample (c .before .enum-told2 .given .1)), start .pre .1)
-
-enum-told-3 : tie.Need-enum-told-3
-enum-told-3 c = search needs
-
-fill-332-requires : tie.Need-fill-332-requires
-fill-332-requires c κs =
-    let start = c .before .before .before .before .before .before .before in
-    rw (c .before .before .before .of .ensures) (start .pre .0, refl, c .before .enum-told3 .given .1, start .pre .1)
-
-enum-told-4 : tie.Need-enum-told-4
-enum-told-4 c = search needs
-
-fill-rgb-requires : tie.Need-fill-rgb-requires
-fill-rgb-requires c κs =
-    let start = c .before .before .before .before .before .before .before in
-    rw (c .before .before .before .of .ensures) (start .pre .0, refl, inl (c .before .enum-told4 .given .1), start .pre .1)
-
-enum-told-5 : tie.Need-enum-told-5
-enum-told-5 c = search needs
-
-fill-rgb-requires-2 : tie.Need-fill-rgb-requires-2
-fill-rgb-requires-2 c κs =
-    let start = c .before .before .before .before .before .before .before in
-    rw (c .before .before .before .of .ensures) (start .pre .0, refl, inr (inl (c .before .enum-told5 .given .1)), start .pre .1)
-
-enum-told-6 : tie.Need-enum-told-6
-enum-told-6 c = search needs
-
-fill-rgb-requires-3 : tie.Need-fill-rgb-requires-3
-fill-rgb-requires-3 c κs =
-    let start = c .before .before .before .before .before .before .before in
-    rw (c .before .before .before .of .ensures) (start .pre .0, refl, inr (inr (c .before .enum-told6 .given .1)), start .pre .1)
+    let start = told .before .before .before .before .before in
+    (start .pre .0, told .samples-of-8 .ensures (c .before .if2 .taken), start .pre .1)
 
 same-length : tie.Need-same-length
 same-length c = search needs
 
 returns : tie.Need-returns
-returns c = rw (c .before .before .before .before .before .before .before .of .ensures) at (c .before .before .fill-mapped .ensures)
+returns c = search needs
+
+fill-normal-requires : tie.Need-fill-normal-requires
+fill-normal-requires c κs = search needs
+
+correct-requires : tie.Need-correct-requires
+correct-requires c κs = search needs
 
 same-length-2 : tie.Need-same-length-2
 same-length-2 c = search needs
 
 returns-2 : tie.Need-returns-2
-returns-2 c = rw (c .before .before .before .before .before .before .of .ensures) at (c .before .before .fill-mapped2 .ensures)
-
-same-length-3 : tie.Need-same-length-3
-same-length-3 c = search needs
-
-returns-3 : tie.Need-returns-3
-returns-3 c = rw (c .before .before .before .before .before .before .of .ensures) at (c .before .before .fill-332 .ensures)
-
-same-length-4 : tie.Need-same-length-4
-same-length-4 c = search needs
-
-returns-4 : tie.Need-returns-4
-returns-4 c = rw (c .before .before .before .before .before .before .of .ensures) at (c .before .before .fill-rgb .ensures)
-
-same-length-5 : tie.Need-same-length-5
-same-length-5 c = search needs
-
-returns-5 : tie.Need-returns-5
-returns-5 c = rw (c .before .before .before .before .before .before .of .ensures) at (c .before .before .fill-rgb2 .ensures)
-
-same-length-6 : tie.Need-same-length-6
-same-length-6 c = search needs
-
-returns-6 : tie.Need-returns-6
-returns-6 c = rw (c .before .before .before .before .before .before .of .ensures) at (c .before .before .fill-rgb3 .ensures)
+returns-2 c =
+    let corrected = c .before .before in
+    let filled = corrected .before .before .before .before in
+    let a = filled .before .before .before .before .before .before .args in
+    λ overlay.
+    let memory = pixelView (a .store .now) (a .normal .now) overlay in
+    changed-run (λ _ word. value memory (throughGamma (a .entry .bypass) word)) (λ p. value memory (normalAt (a .depth) (a .entry) p))
+    (λ p. value memory (plainAt (a .depth) (a .entry) p))
+    (a .x) (a .out .now) (filled .fill-normal .last .1 .1 .1 .1 .1 .1 .0) _ (a .count)
+    (filled .fill-normal .ensures overlay)
+    (corrected .correct .ensures (a .normal .now) overlay ∙ changed-anywhere (λ (word : ℕ). value memory (throughGamma (a .entry .bypass) word)) 0 (a .x) (filled .fill-normal .last .1 .1 .1 .1 .1 .1 .0) (a .count))
+    (λ p. plain-of-normal memory (a .depth) (a .entry) p refl refl)
 
 pub fill-plain-spec : {M : Type 1} → statement M
 fill-plain-spec =
     tie.close
     (tie.spec
-    of-requires
-    enum-told
-    map-entry-requires
-    fill-mapped-requires
-    enum-told-2
-    fill-mapped-requires-2
-    enum-told-3
-    fill-332-requires
-    enum-told-4
-    fill-rgb-requires
-    enum-told-5
-    fill-rgb-requires-2
-    enum-told-6
-    fill-rgb-requires-3
+    samples-of-8-requires
+    fill-looked-up-requires
     same-length
     returns
+    fill-normal-requires
+    correct-requires
     same-length-2
-    returns-2
-    same-length-3
-    returns-3
-    same-length-4
-    returns-4
-    same-length-5
-    returns-5
-    same-length-6
-    returns-6)
+    returns-2)

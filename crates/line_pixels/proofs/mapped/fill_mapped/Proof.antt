@@ -1,27 +1,31 @@
 -- `line_pixels::mapped::fill_mapped` meets its contract: each pixel gets the map entry that its index shows. Assumes nothing.
 use Prim.Native.Nat.{ℕ, _+_, _-_, _<_}
-use mathlib.Core.Path.{_≡_, ap, _∙_}
-use mathlib.Core.List.{[]}
+use mathlib.Core.Path.{_≡_, sym, ap, _∙_}
+use mathlib.Core.List.{List, []}
 use native.Mathlib.Nat.{div-one, mod-eq-of-lt}
 use native.Mathlib.Omega.{arith}
-use Rattle.rules.proofs.Fill.{fill-start, fill-over}
+use Rattle.rules.specs.Rule.{value}
+use Rattle.rules.proofs.Fill.{Filling, fill-start, fill-next, fill-over}
 use Rattle.words.specs.Field.{bits}
 use Rattle.line_colour.specs.Shown.{shownOf}
 use Rattle.line_colour.specs.declared.entry.Shown.the-variants.{MapEntry}
 use Rattle.line_colour.proofs.Defined.{map-entry-below}
+use Rattle.line_pixels.specs.Cells.{pixelView}
+use Rattle.line_pixels.specs.Colour.{normalAt}
 use Rattle.line_pixels.proofs.Rows.{said-says, pixels-le}
-use Rattle.line_pixels.proofs.PlainRuns.{FillingPlain, pixel-lent, plain-next}
+use Rattle.line_pixels.proofs.LayersCases.{normal-of-map}
+use Rattle.line_pixels.proofs.NormalRuns.{pixel-in-row}
 use Rattle.line_pixels.proofs.mapped.fill_mapped.Statement.{statement}
 use Rattle.line_pixels.proofs.mapped.fill_mapped.Tie as tie
 
--- the pixels before i are filled with their plain colours
+-- the pixels before i are filled with their normal colours, whatever the overlay row holds
 abbrev Inv-loop : tie.InvT-loop
-Inv-loop depth sampling first store normal x count out₀ bypass i₀ out i =
-    FillingPlain depth (sampling .entry) store normal x count out₀ out i
+Inv-loop depth sampling first store normal x count out₀ i₀ out i =
+    (overlay : List ℕ) → Filling (λ p. value (pixelView store normal overlay) (normalAt depth (sampling .entry) p)) x count out₀ out i
 
 -- the pixels that are left
 abbrev μ-loop : tie.MeasureT-loop
-μ-loop depth sampling first store normal x count out₀ bypass i₀ out i = count - i
+μ-loop depth sampling first store normal x count out₀ i₀ out i = count - i
 
 -- where the run started
 abbrev start-of : tie.At-loop Inv-loop μ-loop → tie.Start Inv-loop μ-loop
@@ -52,13 +56,13 @@ add-sample-at c = omega (arith, pixels-le (start-of (c .before) .pre .0))
 sample-at-requires : tie.Need-sample-at-requires Inv-loop μ-loop
 sample-at-requires c κs =
     let start = start-of (c .before) in
-    (start .pre .0 .said, start .pre .1, pixel-lent (start .args .x) (start .pre .0) (c .loop-test .taken))
+    (start .pre .0 .said, start .pre .1, pixel-in-row (start .args .depth) (start .args .sampling .entry) (start .args .normal .now) (start .args .x) (start .pre .0 .said, start .pre .0 .normal-long) (c .loop-test .taken))
 
-add-plain-entry : tie.Need-add-plain-entry Inv-loop μ-loop
-add-plain-entry c = omega (arith, in-map c)
+add-mapped : tie.Need-add-mapped Inv-loop μ-loop
+add-mapped c = omega (arith, in-map c)
 
-plain-entry-requires : tie.Need-plain-entry-requires Inv-loop μ-loop
-plain-entry-requires c κs = (start-of (c .before .before) .pre .0 .store-long, in-map c)
+mapped-requires : tie.Need-mapped-requires Inv-loop μ-loop
+mapped-requires c κs = (start-of (c .before .before) .pre .0 .store-long, in-map c)
 
 mul-out : tie.Need-mul-out Inv-loop μ-loop
 mul-out c = omega (arith, c .before .before .before .loop .inv [])
@@ -76,10 +80,11 @@ loop-again : tie.Need-loop-again Inv-loop μ-loop
 loop-again c =
     let at-loop = c .before .before .before in
     let a = start-of at-loop .args in
-    plain-next (a .depth) (a .sampling .entry) (a .store .now) (a .normal .now) (at-loop .loop .inv) (c .before .before .loop-test .taken)
-    (c .before .sample-at .ensures .0)
-    (shows (c .before))
-    (c .plain-entry .ensures)
+    λ overlay.
+    fill-next (at-loop .loop .inv overlay) (c .before .before .loop-test .taken)
+    (normal-of-map (pixelView (a .store .now) (a .normal .now) overlay) (a .depth) (a .sampling .entry) (a .x + at-loop .loop .i)
+    (sym (ap (shownOf (a .sampling .entry)) (c .before .sample-at .ensures .0)) ∙ shows (c .before))
+    (c .mapped .ensures (a .normal .now) overlay))
 
 same-length : tie.Need-same-length Inv-loop μ-loop
 same-length c = c .before .loop .inv [] .long
@@ -96,8 +101,8 @@ fill-mapped-spec =
     loop-holds
     add-sample-at
     sample-at-requires
-    add-plain-entry
-    plain-entry-requires
+    add-mapped
+    mapped-requires
     mul-out
     slice-write-out
     add-i

@@ -1,90 +1,230 @@
--- `line_pixels::rgb::fill_rgb` meets its contract: each pixel gets the colour of its sample. Assumes nothing.
-use Prim.Native.Nat.{_-_}
-use mathlib.Core.Path.{sym, ap, _∙_}
-use mathlib.Core.List.{[]}
+-- `line_pixels::rgb::fill_rgb` meets its contract: by the loop of its format, over the bytes that hold the samples. Assumes nothing.
+use Prim.Native.Nat.{ℕ, _+_, _-_, _*_, _/_, _≤_, _<_}
+use mathlib.Core.Path.{_≡_, ap}
+use mathlib.Core.Logic.{_⊎_, inl, inr, ⊎-elim}
+use mathlib.Core.List.{List}
 use native.Mathlib.Omega.{arith}
-use Rattle.rules.proofs.Fill.{fill-start, fill-over}
-use Rattle.line_colour.specs.declared.entry.Shown.the-variants.{Colour}
-use Rattle.line_pixels.proofs.Rows.{pixels-le}
-use Rattle.line_pixels.proofs.LayersCases.{shown-rgb}
-use Rattle.line_pixels.proofs.PlainRuns.{FillingPlain, pixel-lent, plain-next}
+use borrow.Author.Needs.{needs}
+use lib.Dec.{lit<, lit≤}
+use lib.ListN.{length}
+use Rattle.rules.specs.Lists.{filled}
+use Rattle.words.specs.Bytes.{bigEndian}
+use Rattle.words.specs.Channels.{wordOf}
+use Rattle.line_formats.specs.Table.{widthsOf, colourInFormat}
+use Rattle.line_formats.specs.declared.Format.{Format}
+use Rattle.line_formats.specs.declared.Format.the-variants.{Rgb888}
+use Rattle.line_colour.proofs.Defined.{Says}
+use Rattle.line_pixels.specs.Inner.{FilledNormal}
+use Rattle.line_pixels.proofs.Rows.{said-says}
+use Rattle.line_pixels.proofs.Halves.{HeldBy, held-by-half, held-by-two, held-by-four, before-in-row, held-in-row}
+use Rattle.line_pixels.proofs.RgbRuns.{run-normal}
 use Rattle.line_pixels.proofs.rgb.fill_rgb.Statement.{statement}
 use Rattle.line_pixels.proofs.rgb.fill_rgb.Tie as tie
 
--- the pixels before i are filled with their plain colours
-abbrev Inv-loop : tie.InvT-loop
-Inv-loop depth sampling store normal x count out₀ entry format i₀ out i =
-    FillingPlain depth (sampling .entry) store normal x count out₀ out i
-
--- the pixels that are left
-abbrev μ-loop : tie.MeasureT-loop
-μ-loop depth sampling store normal x count out₀ entry format i₀ out i = count - i
-
 -- where the run started
-abbrev start-of : tie.At-loop Inv-loop μ-loop → tie.Start Inv-loop μ-loop
-start-of c = c .before .before .before .before .before
+abbrev start-of : tie.After-struct-known → tie.Start
+start-of c = c .before .before .before
 
-loop-holds : tie.Need-loop-holds Inv-loop μ-loop
-loop-holds c = λ overlay. fill-start (c .before .before .before .before .pre .3)
+-- the samples of the run are held by m bytes of n, the first by those from `first` on
+abbrev Held : tie.After-struct-known → ℕ → ℕ → ℕ → Type 0
+Held c n m first = let a = start-of c .args in HeldBy (a .depth) (a .entry) (a .x) n m first
 
-add-sample-at : tie.Need-add-sample-at Inv-loop μ-loop
-add-sample-at c = omega (arith, pixels-le (start-of (c .before) .pre .0))
+module _ (c : tie.After-struct-known) where
+  -- the entry fits its depth
+  says : Says (start-of c .args .depth) (start-of c .args .entry)
+  says = said-says (start-of c .args .depth) (start-of c .args .entry) (start-of c .pre .0 .0)
 
-sample-at-requires : tie.Need-sample-at-requires Inv-loop μ-loop
-sample-at-requires c κs =
-    let start = start-of (c .before) in
-    (start .pre .0 .said, start .pre .1, pixel-lent (start .args .x) (start .pre .0) (c .loop-test .taken))
+  module _ {n m first : ℕ} (held : Held c n m first) where
+    -- the bytes before the run are in the row
+    run-before : n * start-of c .args .x ≤ length (start-of c .args .normal .now)
+    run-before = before-in-row (start-of c .args .normal .now) held (start-of c .args .count) (start-of c .pre .0)
 
-colour-requires : tie.Need-colour-requires Inv-loop μ-loop
-colour-requires c κs = start-of (c .before .before) .pre .2
+    -- what a run over those bytes asks
+    asked : ((i : ℕ) → i < start-of c .args .count → first + n * i + m ≤ length (start-of c .args .normal .now)) × (start-of c .args .count ≤ length (start-of c .args .out .now))
+    asked = (held-in-row (start-of c .args .normal .now) held (start-of c .args .count) (start-of c .pre .0), start-of c .pre .2)
 
-plain-colour-requires : tie.Need-plain-colour-requires Inv-loop μ-loop
-plain-colour-requires c κs = start-of (c .before .before .before) .pre .0 .store-long
+    -- what it fills
+    shows : {format : Format} {after : List ℕ} → start-of c .args .entry .format ≡ format
+        → after ≡ filled (λ i. wordOf (colourInFormat format (bigEndian (start-of c .args .normal .now) (first + n * i) m))) 0 (start-of c .args .out .now) (start-of c .args .count)
+        → (store : List ℕ)
+        → let a = start-of c .args in FilledNormal (a .depth) (a .entry) store (a .normal .now) (a .x) (a .count) (a .out .now) after
+    shows is ran =
+        let a = start-of c .args in
+        run-normal (a .normal .now) held says (λ place. omega (arith, c .before .before .shared-slice-known .given place)) is (start-of c .pre .1) (a .count) (a .out .now) ran
 
-mul-out : tie.Need-mul-out Inv-loop μ-loop
-mul-out c = omega (arith, c .before .before .before .before .loop .inv [])
+  module _ {format : Format} (is : start-of c .args .entry .format ≡ format) where
+    -- the bits of a sample in the format that the entry's is known to be
+    used : widthsOf (start-of c .args .entry .format) .bits ≡ widthsOf format .bits
+    used = ap (λ (f : Format). widthsOf f .bits) is
 
-slice-write-out : tie.Need-slice-write-out Inv-loop μ-loop
-slice-write-out c = omega (arith, c .before .before .before .before .loop .inv [])
+    -- at depth 32 a sample that fits half a pixel is held by two bytes of four
+    half-held : widthsOf format .bits ≤ 16 → start-of c .args .depth ≡ 32 → let a = start-of c .args in Held c 4 2 (4 * a .x + 2 - a .entry .low / 8)
+    half-held fits at = held-by-half (start-of c .args .x) says (omega (arith, used)) at
 
-add-i : tie.Need-add-i Inv-loop μ-loop
-add-i c = omega (arith, c .before .before .before .before .loop .inv [])
+    -- at another depth one that fits no half of it is held by both bytes
+    two-held : 8 < widthsOf format .bits → widthsOf format .bits ≤ 16 → (start-of c .args .depth ≡ 32 → ⊥) → Held c 2 2 (2 * start-of c .args .x)
+    two-held above fits not =
+        let at : start-of c .args .depth ≡ 16 = ⊎-elim (λ at. at) (λ at. absurd (not at)) (says .at-depth) in
+        held-by-two (start-of c .args .x) says (omega (arith, used)) (omega (arith, used)) at
 
-loop-less : tie.Need-loop-less Inv-loop μ-loop
-loop-less c = omega arith
+    -- one that fits no two bytes is held by four
+    four-held : 16 < widthsOf format .bits → Held c 4 4 (4 * start-of c .args .x)
+    four-held above =
+        let at : start-of c .args .depth ≡ 32 = ⊎-elim (λ at. omega (arith, used, says .within)) (λ at. at) (says .at-depth) in
+        held-by-four (start-of c .args .x) says (omega (arith, used)) at
 
-loop-again : tie.Need-loop-again Inv-loop μ-loop
-loop-again c =
-    let at-loop = c .before .before .before .before in
-    let start = start-of at-loop in
-    let a = start .args in
-    let sample = c .before .before .sample-at in
-    plain-next (a .depth) (a .sampling .entry) (a .store .now) (a .normal .now) (at-loop .loop .inv) (c .before .before .before .loop-test .taken)
-    (sample .ensures .0)
-    (shown-rgb (a .sampling .entry) (sample .result) (start .pre .2) ∙ ap Colour (sym (c .before .colour .ensures)))
-    (c .plain-colour .ensures)
+-- in 4-4-4 at depth 32
+held-1 : (c : tie.Then1) → let begun = c .before .before .before in let a = start-of begun .args in Held begun 4 2 (4 * a .x + 2 - a .entry .low / 8)
+held-1 c = half-held (c .before .before .before) (c .before .enum-told .given .1) (lit≤ tt) (c .if1 .taken)
 
-same-length : tie.Need-same-length Inv-loop μ-loop
-same-length c = c .before .loop .inv [] .long
+-- in 4-4-4 at depth 16
+held-2 : (c : tie.Else1) → let begun = c .before .before .before in Held begun 2 2 (2 * start-of begun .args .x)
+held-2 c = two-held (c .before .before .before) (c .before .enum-told .given .1) (lit< tt) (lit≤ tt) (c .if1 .left)
 
-returns : tie.Need-returns Inv-loop μ-loop
-returns c = λ overlay. fill-over (c .before .loop .inv overlay) (c .loop-test .left)
+-- in 5-5-5 at depth 32
+held-3 : (c : tie.Then2) → let begun = c .before .before .before in let a = start-of begun .args in Held begun 4 2 (4 * a .x + 2 - a .entry .low / 8)
+held-3 c = half-held (c .before .before .before) (c .before .enum-told2 .given .1) (lit≤ tt) (c .if2 .taken)
+
+-- in 5-5-5 at depth 16
+held-4 : (c : tie.Else2) → let begun = c .before .before .before in Held begun 2 2 (2 * start-of begun .args .x)
+held-4 c = two-held (c .before .before .before) (c .before .enum-told2 .given .1) (lit< tt) (lit≤ tt) (c .if2 .left)
+
+-- the fourth and the fifth format are none of the others
+no-fourth : (tag : ℕ) → (tag ≡ 5) ⊎ (tag ≡ 0) ⊎ (tag ≡ 1) ⊎ (tag ≡ 2) → (2 < tag) × (tag < 5) → ⊥
+no-fourth tag (inl e) between = omega arith
+no-fourth tag (inr (inl e)) between = omega arith
+no-fourth tag (inr (inr (inl e))) between = omega arith
+no-fourth tag (inr (inr (inr e))) between = omega arith
+
+-- where the format is neither, it is 8-8-8
+is-888 : (c : tie.At-match-keys3) → start-of (c .before) .args .entry .format ≡ Rgb888
+is-888 c =
+    let others = c .match .keys3 in
+    ⊎-elim (λ is. absurd (no-fourth 3 (rw is at others) (lit< tt, lit< tt)))
+    (λ rest. ⊎-elim (λ is. absurd (no-fourth 4 (rw is at others) (lit< tt, lit< tt))) (λ is. is) rest)
+    (start-of (c .before) .pre .1)
+
+-- in 8-8-8
+held-5 : (c : tie.At-match-keys3) → Held (c .before) 4 4 (4 * start-of (c .before) .args .x)
+held-5 c = four-held (c .before) (is-888 c) (lit< tt)
+
+cast-high : tie.Need-cast-high
+cast-high c = search needs
+
+enum-told : tie.Need-enum-told
+enum-told c = search needs
+
+mul-run-444 : tie.Need-mul-run-444
+mul-run-444 c = omega (arith, run-before (c .before .before .before) (held-1 c))
+
+add-run-444 : tie.Need-add-run-444
+add-run-444 c = omega (arith, run-before (c .before .before .before) (held-1 c))
+
+sub-run-444 : tie.Need-sub-run-444
+sub-run-444 c = omega (arith, held-1 c .within)
+
+run-444-requires : tie.Need-run-444-requires
+run-444-requires c κs = asked (c .before .before .before .before) (held-1 (c .before))
+
+mul-run-444-2 : tie.Need-mul-run-444-2
+mul-run-444-2 c = omega (arith, run-before (c .before .before .before) (held-2 c))
+
+run-444-requires-2 : tie.Need-run-444-requires-2
+run-444-requires-2 c κs = asked (c .before .before .before .before) (held-2 (c .before))
+
+enum-told-2 : tie.Need-enum-told-2
+enum-told-2 c = search needs
+
+mul-run-555 : tie.Need-mul-run-555
+mul-run-555 c = omega (arith, run-before (c .before .before .before) (held-3 c))
+
+add-run-555 : tie.Need-add-run-555
+add-run-555 c = omega (arith, run-before (c .before .before .before) (held-3 c))
+
+sub-run-555 : tie.Need-sub-run-555
+sub-run-555 c = omega (arith, held-3 c .within)
+
+run-555-requires : tie.Need-run-555-requires
+run-555-requires c κs = asked (c .before .before .before .before) (held-3 (c .before))
+
+mul-run-555-2 : tie.Need-mul-run-555-2
+mul-run-555-2 c = omega (arith, run-before (c .before .before .before) (held-4 c))
+
+run-555-requires-2 : tie.Need-run-555-requires-2
+run-555-requires-2 c κs = asked (c .before .before .before .before) (held-4 (c .before))
+
+mul-run-888 : tie.Need-mul-run-888
+mul-run-888 c = omega (arith, run-before (c .before) (held-5 c))
+
+run-888-requires : tie.Need-run-888-requires
+run-888-requires c κs = asked (c .before .before) (held-5 (c .before))
+
+same-length : tie.Need-same-length
+same-length c = search needs
+
+returns : tie.Need-returns
+returns c =
+    let branch = c .before .before .before .before in
+    shows (branch .before .before .before) (held-1 branch) (branch .before .enum-told .given .1) (c .before .before .run-444 .ensures)
+
+same-length-2 : tie.Need-same-length-2
+same-length-2 c = search needs
+
+returns-2 : tie.Need-returns-2
+returns-2 c =
+    let branch = c .before .before .before .before in
+    shows (branch .before .before .before) (held-2 branch) (branch .before .enum-told .given .1) (c .before .before .run-4442 .ensures)
+
+same-length-3 : tie.Need-same-length-3
+same-length-3 c = search needs
+
+returns-3 : tie.Need-returns-3
+returns-3 c =
+    let branch = c .before .before .before .before in
+    shows (branch .before .before .before) (held-3 branch) (branch .before .enum-told2 .given .1) (c .before .before .run-555 .ensures)
+
+same-length-4 : tie.Need-same-length-4
+same-length-4 c = search needs
+
+returns-4 : tie.Need-returns-4
+returns-4 c =
+    let branch = c .before .before .before .before in
+    shows (branch .before .before .before) (held-4 branch) (branch .before .enum-told2 .given .1) (c .before .before .run-5552 .ensures)
+
+same-length-5 : tie.Need-same-length-5
+same-length-5 c = search needs
+
+returns-5 : tie.Need-returns-5
+returns-5 c = let arm = c .before .before .before .before in shows (arm .before) (held-5 arm) (is-888 arm) (c .before .before .run-888 .ensures)
 
 pub fill-rgb-spec : {M : Type 1} → statement M
 fill-rgb-spec =
     tie.close
     (tie.spec
-    Inv-loop
-    μ-loop
-    loop-holds
-    add-sample-at
-    sample-at-requires
-    colour-requires
-    plain-colour-requires
-    mul-out
-    slice-write-out
-    add-i
-    loop-less
-    loop-again
+    cast-high
+    enum-told
+    mul-run-444
+    add-run-444
+    sub-run-444
+    run-444-requires
+    mul-run-444-2
+    run-444-requires-2
+    enum-told-2
+    mul-run-555
+    add-run-555
+    sub-run-555
+    run-555-requires
+    mul-run-555-2
+    run-555-requires-2
+    mul-run-888
+    run-888-requires
     same-length
-    returns)
+    returns
+    same-length-2
+    returns-2
+    same-length-3
+    returns-3
+    same-length-4
+    returns-4
+    same-length-5
+    returns-5)

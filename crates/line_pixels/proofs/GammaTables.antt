@@ -1,0 +1,45 @@
+-- Three tables into which the gamma map is split: their words fit, and a word through them is the word through gamma. Assumes nothing.
+use Prim.Native.Nat.{ℕ, _*_, _/_, _%_, _<_}
+use mathlib.Core.Path.{_≡_, sym, ap, _∙_}
+use mathlib.Core.Bool.{false}
+use mathlib.Core.List.{List}
+use native.Mathlib.Nat.{div-one, mod-lt}
+use native.Mathlib.Omega.{arith}
+use lib.Dec.{lit<}
+use lib.ListN.{getD}
+use Rattle.rules.specs.Rule.{value}
+use Rattle.rules.specs.Lists.{changed}
+use Rattle.rules.proofs.Change.{changed-same}
+use Rattle.line_pixels.specs.Cells.{inRed, inGreen, inBlue, gamma, pixelView}
+use Rattle.line_pixels.specs.Colour.{throughGamma}
+use Rattle.line_pixels.specs.Inner.{Corrected, SplitBy, TablesFit, byTables}
+use Rattle.line_pixels.proofs.CellsInMemory.{gamma-red-in-store, gamma-green-in-store, gamma-blue-in-store}
+
+-- what is left of a division by 256 is the number of a word of a table
+pub in-table : (n : ℕ) → n % 256 < 256
+in-table n = mod-lt n {m = 256} (lit< tt)
+
+module _ {store red green blue : List ℕ} (split : SplitBy store red green blue) where
+  -- no word of the tables is more than its channel
+  pub tables-fit : TablesFit red green blue
+  tables-fit k below = let at = split k below in omega arith
+
+  -- a word through the tables is the word through gamma, whatever the rows hold
+  pub tables-correct : (normal overlay : List ℕ) (word : ℕ) → byTables red green blue word ≡ value (pixelView store normal overlay) (throughGamma false word)
+  unfolding throughGamma
+  tables-correct normal overlay word =
+      let memory = pixelView store normal overlay in
+      let r : getD red (word / 65536 % 256) 0 ≡ memory (gamma inRed (word / 65536 % 256)) * 65536
+      = split (word / 65536 % 256) (in-table (word / 65536)) .in-red ∙ ap (λ (n : ℕ). n * 65536) (sym (gamma-red-in-store store normal overlay (word / 65536 % 256))) in
+      let g : getD green (word / 256 % 256) 0 ≡ memory (gamma inGreen (word / 256 % 256)) * 256
+      = split (word / 256 % 256) (in-table (word / 256)) .in-green ∙ ap (λ (n : ℕ). n * 256) (sym (gamma-green-in-store store normal overlay (word / 256 % 256))) in
+      let b : getD blue (word % 256) 0 ≡ memory (gamma inBlue (word / 1 % 256))
+      = split (word % 256) (in-table word) .in-blue ∙ sym (gamma-blue-in-store store normal overlay (word % 256)) ∙ ap (λ (n : ℕ). memory (gamma inBlue (n % 256))) (sym (div-one word)) in
+      rw (r, g, b)
+
+  -- words that went through the tables went through gamma
+  pub tables-corrected : (before : List ℕ) (count : ℕ) {after : List ℕ} → after ≡ changed (λ _ word. byTables red green blue word) 0 before count → Corrected store false before count after
+  tables-corrected before count is =
+      λ normal overlay.
+      is
+      ∙ changed-same (λ _ word. byTables red green blue word) (λ _ word. value (pixelView store normal overlay) (throughGamma false word)) (λ _ word. tables-correct normal overlay word) 0 before count
