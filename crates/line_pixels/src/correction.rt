@@ -8,10 +8,8 @@ ghost use Rattle.chip_registers.specs.Store.{storeLength};
 ghost use Rattle.line_pixels.specs.Inner.{Corrected, SplitBy, TablesFit, byTables};
 use crate::fours::put_four;
 use crate::layers::through_gamma;
+use crate::lengths::SPLIT_WORDS;
 use chip_registers::GAMMA_MAP_START;
-
-// From so many words on three tables are made; docs/DECISIONS.md says why.
-const MANY: usize = 256;
 
 // The first so many words through gamma, each by the map.
 fn correct_few(store: &[u32], words: &mut [u32], count: usize)
@@ -96,7 +94,7 @@ pub(crate) fn correct(store: &[u32], bypass: bool, words: &mut [u32], count: usi
     if bypass {
         return;
     }
-    if MANY < count {
+    if SPLIT_WORDS <= count {
         correct_many(store, words, count);
     } else {
         correct_few(store, words, count);

@@ -11,6 +11,8 @@ ghost use Rattle.line_pixels.specs.Colour.{colourOfPixel};
 ghost use Rattle.line_pixels.specs.Inner.{PlainLent, PixelsLent, FilledNormal, FilledPlain, FilledUnder, FilledPixels};
 use crate::Screen;
 use crate::correction::correct;
+use crate::lengths::LAYERED_RUN;
+use crate::lengths::LOOKED_UP_RUN;
 use crate::looked_up::fill_looked_up;
 use crate::mapped::fill_mapped;
 use crate::overlay::lay_overlay;
@@ -20,12 +22,6 @@ use crate::sampling::Sampling;
 use line_colour::entry::WindowEntry;
 use line_formats::Format;
 use line_formats::Index8;
-
-// The shortest run that is drawn layer by layer; docs/DECISIONS.md says why.
-const LAYERED_RUN: usize = 4;
-
-// The shortest run of 8-bit samples for which the colours of all samples are made first; docs/DECISIONS.md says why.
-const LOOKED_UP_RUN: usize = 300;
 
 // A run's normal colours, by the loop of its format.
 fn fill_normal(

@@ -5,6 +5,7 @@ mod cursor;
 pub mod fill;
 mod fours;
 mod layers;
+mod lengths;
 mod looked_up;
 mod mapped;
 mod overlay;

@@ -10,11 +10,9 @@ use crate::correction::correct;
 use crate::fours::put_four;
 use crate::layers::OVERLAY_COLOURS;
 use crate::layers::overlay_shown;
+use crate::lengths::OVERLAY_RUN;
 use crate::mapped::map_colours;
 use line_colour::entry::WindowEntry;
-
-// The shortest run for which the colours of all overlay bytes are made first; docs/DECISIONS.md says why.
-const LONG_RUN: usize = 300;
 
 // The colour of an overlay byte, or what is under it where the byte is 0.
 fn overlay_or(entry: WindowEntry, store: &[u32], byte: u32, under: u32) -> u32
@@ -105,7 +103,7 @@ pub(crate) fn lay_overlay(
     requires { ⌜ (length (now store) ≡ storeLength) × (x + count ≤ length (now overlay)) × (count ≤ length (now out)) ⌝ }
     ensures { λ _. ⌜ Overlaid entry (now (store .entry)) (now (overlay .entry)) x (now (out .entry)) count (now (out .exit)) ⌝ }
 {
-    if LONG_RUN <= count {
+    if OVERLAY_RUN <= count {
         lay_long(entry, store, overlay, x, count, out);
     } else {
         lay_short(entry, store, overlay, x, count, out);

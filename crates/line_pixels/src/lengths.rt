@@ -1,0 +1,13 @@
+// From which length on a run is drawn in which way: where the quick way begins to pay. docs/DECISIONS.md has the measurement.
+
+// The shortest run that is drawn layer by layer. A single pixel is drawn by the function that says what any pixel shows.
+pub(crate) const LAYERED_RUN: usize = 2;
+
+// The shortest run of 8-bit samples for which the colours of all samples are made first.
+pub(crate) const LOOKED_UP_RUN: usize = 192;
+
+// The shortest run for which the colours of all overlay bytes are made first.
+pub(crate) const OVERLAY_RUN: usize = 256;
+
+// The fewest words for which the gamma map is split into its channels first.
+pub(crate) const SPLIT_WORDS: usize = 128;
