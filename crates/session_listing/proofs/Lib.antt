@@ -1,9 +1,11 @@
 pub mod Letters
 pub mod Puts
+pub mod Ahead
 pub mod Decimal
 pub mod Pixels
 pub mod FirstLine
 pub mod Texts
+pub mod Pairs
 pub mod Fits
 pub mod Rendering
 pub mod Unique

@@ -1,9 +1,10 @@
 -- What the functions that put text say of it.
-use Prim.Native.Nat.{ℕ, _+_, _≤_, min}
+use Prim.Native.Nat.{ℕ, zero, suc, _+_, _/_, _%_, _≤_, min}
 use mathlib.Core.Path.{_≡_}
 use mathlib.Core.List.{List, [], _∷_, _++_}
 use lib.ListN.{length, take, drop}
 use lib.Seq.{sets}
+use Rattle.session_listing.specs.Digits.{digit}
 use Rattle.session_listing.specs.Text.{ascii, EntrySays, saysOk, saysAt, saysLine, saysRefused, ended, spaced, pixels, firstLine}
 use Rattle.session_listing.specs.declared.parts.Parts.{Parts}
 
@@ -12,6 +13,21 @@ pub record Put (lent : List ℕ) (place : ℕ) (bytes left : List ℕ) (next : �
   pub stored : left ≡ sets lent place bytes
   pub after : next ≡ place + length bytes
   pub fits : next ≤ length lent
+
+-- some bytes are put into lent ones, from a place on, but the place after them is open: what is put there next stands behind them
+pub record PutAhead (lent : List ℕ) (place : ℕ) (bytes left : List ℕ) (next : ℕ) : Type 0 where
+  pub covered : (byte : ℕ) (more : List ℕ) → sets left next (byte ∷ more) ≡ sets lent place (bytes ++ byte ∷ more)
+  pub after : next ≡ place + length bytes
+  pub long : length left ≡ length lent
+
+-- of so many bytes from one on, the two hex digits of each, and two line feeds behind them
+abbrev pub pairsFrom : ℕ → ℕ → List ℕ
+pairsFrom byte zero = []
+pairsFrom byte (suc count) = digit (byte / 16) ∷ digit (byte % 16) ∷ 10 ∷ 10 ∷ pairsFrom (suc byte) count
+
+-- the hex digits of all bytes
+unfoldable pub pairTable : List ℕ
+pairTable = pairsFrom 0 256
 
 -- the words, one behind another
 abbrev pub listingWords : List ℕ

@@ -1,16 +1,16 @@
 // Text put into lent bytes, from a place on. Each function answers the place after what it put.
-ghost use Prim.Native.Nat.{_+_, _*_, _≤_, _<_};
+ghost use Prim.Native.Nat.{_+_, _≤_, _<_};
 ghost use mathlib.Core.Path.{_≡_};
 ghost use mathlib.Core.List.{[], _∷_};
 ghost use lib.ListN.{length, take, drop};
-ghost use Rattle.session_listing.specs.Digits.{digit, decimal, hex};
-ghost use Rattle.session_listing.specs.Text.{ended, spaced, pixels};
+ghost use Rattle.session_listing.specs.Digits.{digit, decimal};
+ghost use Rattle.session_listing.specs.Text.{spaced};
 ghost use Rattle.session_listing.specs.Inner.{Put, listingWords, partsLine};
 use crate::parts::Parts;
 use crate::parts::letter;
 
 // The byte of a digit.
-fn digit(value: u32) -> u8
+pub(crate) fn digit(value: u32) -> u8
     requires { ⌜ value < 16 ⌝ }
     ensures { λ r. ⌜ r ≡ digit value ⌝ }
 {
@@ -70,33 +70,4 @@ pub(crate) fn put_parts(lent: &mut [u8], at: usize, parts: Parts) -> usize
         return next;
     }
     put_spaced(lent, next, parts.second)
-}
-
-// A colour on a line of its own.
-fn put_pixel(lent: &mut [u8], at: usize, colour: u32) -> usize
-    requires { ⌜ at + 7 ≤ length (now lent) ⌝ }
-    ensures { λ r. ⌜ Put (now (lent .entry)) at (ended (hex colour)) (now (lent .exit)) r ⌝ }
-{
-    lent[at] = digit(colour / 1048576 % 16);
-    lent[at + 1] = digit(colour / 65536 % 16);
-    lent[at + 2] = digit(colour / 4096 % 16);
-    lent[at + 3] = digit(colour / 256 % 16);
-    lent[at + 4] = digit(colour / 16 % 16);
-    lent[at + 5] = digit(colour % 16);
-    lent[at + 6] = b'\n';
-    at + 7
-}
-
-// The first so many colours.
-pub(crate) fn put_pixels(lent: &mut [u8], at: usize, colours: &[u32], count: usize) -> usize
-    requires { ⌜ (count ≤ length (now colours)) × (at + 7 * count ≤ length (now lent)) ⌝ }
-    ensures { λ r. ⌜ Put (now (lent .entry)) at (pixels (take count (now (colours .entry)))) (now (lent .exit)) r ⌝ }
-{
-    let mut next = at;
-    let mut i = 0;
-    while i < count {
-        next = put_pixel(lent, next, colours[i]);
-        i += 1;
-    }
-    next
 }

@@ -7,8 +7,8 @@ ghost use Rattle.session_listing.specs.Room.{roomOf, rendered};
 ghost use Rattle.session_listing.specs.Inner.{Put, partsText};
 use crate::entry::ListingEntry;
 use crate::parts::Parts;
+use crate::pixel_lines::put_pixels;
 use crate::put::put_parts;
-use crate::put::put_pixels;
 
 // How many bytes a first line is granted, with its end.
 pub const FIRST_LINE_ROOM: usize = 32;

@@ -1,22 +1,15 @@
--- `session_listing::put::put_pixel` meets its contract: its digits one behind another, and the line's end. Assumes nothing.
+-- `session_listing::pixel_lines::put_eight` meets its contract: its bytes one behind another. Assumes nothing.
 use mathlib.Core.List.{[], _∷_}
 use native.Mathlib.Omega.{arith}
 use borrow.Author.Needs.{needs}
 use denote.Ref.{now}
 use lib.ListN.{length-set}
-use Rattle.session_listing.proofs.Puts.{put-as, put-stores}
-use Rattle.session_listing.proofs.Texts.{six-digits}
-use Rattle.session_listing.proofs.put.put_pixel.Statement.{statement}
-use Rattle.session_listing.proofs.put.put_pixel.Tie as tie
-
-digit-requires : tie.Need-digit-requires
-digit-requires c κs = search needs
+use Rattle.session_listing.proofs.Puts.{put-stores}
+use Rattle.session_listing.proofs.pixel_lines.put_eight.Statement.{statement}
+use Rattle.session_listing.proofs.pixel_lines.put_eight.Tie as tie
 
 slice-write-lent : tie.Need-slice-write-lent
 slice-write-lent c = search needs
-
-digit-requires-2 : tie.Need-digit-requires-2
-digit-requires-2 c κs = search needs
 
 add-lent : tie.Need-add-lent
 add-lent c = search needs
@@ -24,17 +17,11 @@ add-lent c = search needs
 slice-write-lent-2 : tie.Need-slice-write-lent-2
 slice-write-lent-2 c = simp length-set (omega arith)
 
-digit-requires-3 : tie.Need-digit-requires-3
-digit-requires-3 c κs = search needs
-
 add-lent-2 : tie.Need-add-lent-2
 add-lent-2 c = search needs
 
 slice-write-lent-3 : tie.Need-slice-write-lent-3
 slice-write-lent-3 c = simp length-set (omega arith)
-
-digit-requires-4 : tie.Need-digit-requires-4
-digit-requires-4 c κs = search needs
 
 add-lent-3 : tie.Need-add-lent-3
 add-lent-3 c = search needs
@@ -42,17 +29,11 @@ add-lent-3 c = search needs
 slice-write-lent-4 : tie.Need-slice-write-lent-4
 slice-write-lent-4 c = simp length-set (omega arith)
 
-digit-requires-5 : tie.Need-digit-requires-5
-digit-requires-5 c κs = search needs
-
 add-lent-4 : tie.Need-add-lent-4
 add-lent-4 c = search needs
 
 slice-write-lent-5 : tie.Need-slice-write-lent-5
 slice-write-lent-5 c = simp length-set (omega arith)
-
-digit-requires-6 : tie.Need-digit-requires-6
-digit-requires-6 c κs = search needs
 
 add-lent-5 : tie.Need-add-lent-5
 add-lent-5 c = search needs
@@ -66,6 +47,12 @@ add-lent-6 c = search needs
 slice-write-lent-7 : tie.Need-slice-write-lent-7
 slice-write-lent-7 c = simp length-set (omega arith)
 
+add-lent-7 : tie.Need-add-lent-7
+add-lent-7 c = search needs
+
+slice-write-lent-8 : tie.Need-slice-write-lent-8
+slice-write-lent-8 c = simp length-set (omega arith)
+
 add-result : tie.Need-add-result
 add-result c = search needs
 
@@ -74,33 +61,28 @@ same-length c = search needs
 
 returns : tie.Need-returns
 returns c =
-    let given = c .before .before .before .before .before .before .before .args in
-    put-as (put-stores _ (_ ∷ _ ∷ _ ∷ _ ∷ _ ∷ 10 ∷ []) (now (given .lent)) (given .at) (search needs))
-    (six-digits (given .colour) (c .before .before .before .before .before .digit .ensures) (c .before .before .before .before .digit2 .ensures) (c .before .before .before .digit3 .ensures) (c .before .before .digit4 .ensures) (c .before .digit5 .ensures) (c .digit6 .ensures))
+    let given = c .args in
+    put-stores (given .a) (given .b ∷ given .c ∷ given .d ∷ given .e ∷ given .f ∷ given .g ∷ given .h ∷ []) (now (given .lent)) (given .at) (search needs)
 
-pub put-pixel-spec : {M : Type 1} → statement M
-put-pixel-spec =
+pub put-eight-spec : {M : Type 1} → statement M
+put-eight-spec =
     tie.close
     (tie.spec
-    digit-requires
     slice-write-lent
-    digit-requires-2
     add-lent
     slice-write-lent-2
-    digit-requires-3
     add-lent-2
     slice-write-lent-3
-    digit-requires-4
     add-lent-3
     slice-write-lent-4
-    digit-requires-5
     add-lent-4
     slice-write-lent-5
-    digit-requires-6
     add-lent-5
     slice-write-lent-6
     add-lent-6
     slice-write-lent-7
+    add-lent-7
+    slice-write-lent-8
     add-result
     same-length
     returns)

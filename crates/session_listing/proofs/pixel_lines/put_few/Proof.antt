@@ -1,4 +1,4 @@
--- `session_listing::put::put_pixels` meets its contract: one pixel a turn. Assumes nothing.
+-- `session_listing::pixel_lines::put_few` meets its contract: one pixel a turn. Assumes nothing.
 use Prim.Native.Nat.{_-_}
 use mathlib.Core.Path.{refl}
 use native.Mathlib.Omega.{arith}
@@ -8,8 +8,8 @@ use Rattle.session_listing.specs.Digits.{hex}
 use Rattle.session_listing.specs.Text.{pixels}
 use Rattle.session_listing.proofs.Puts.{Putting, putting-start, putting-next, putting-over}
 use Rattle.session_listing.proofs.Pixels.{pixels-more}
-use Rattle.session_listing.proofs.put.put_pixels.Statement.{statement}
-use Rattle.session_listing.proofs.put.put_pixels.Tie as tie
+use Rattle.session_listing.proofs.pixel_lines.put_few.Statement.{statement}
+use Rattle.session_listing.proofs.pixel_lines.put_few.Tie as tie
 
 -- before each turn the first so many colours are put
 abbrev Inv-loop : tie.InvT-loop
@@ -50,8 +50,8 @@ same-length c = c .before .loop .inv .long
 returns : tie.Need-returns Inv-loop μ-loop
 returns c = putting-over (c .before .loop .inv) (search needs)
 
-pub put-pixels-spec : {M : Type 1} → statement M
-put-pixels-spec =
+pub put-few-spec : {M : Type 1} → statement M
+put-few-spec =
     tie.close
     (tie.spec
     Inv-loop
