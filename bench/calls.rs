@@ -1,4 +1,4 @@
-//! Calls on a chip: the proved library's, the model's, and the model's behind the library's interface.
+//! Calls on a chip: the proved library's, and the model's behind the library's interface.
 
 use std::hint::black_box;
 
@@ -8,7 +8,7 @@ use crate::model::chip::{Refusal, State};
 use crate::model::registers::STORE_WORDS;
 
 /// A state and its store.
-#[derive(PartialEq)]
+#[derive(Clone, PartialEq)]
 pub struct Chip {
     pub state: State,
     store: Vec<u32>,
@@ -69,27 +69,6 @@ calls_of!(Library, library);
 pub struct ByValue;
 
 calls_of!(ByValue, by_value);
-
-/// The model's, on the state where it is.
-pub struct Model;
-
-impl Calls for Model {
-    fn write(chip: &mut Chip, address: u32, value: u32) -> u32 {
-        number(black_box(chip.state.write(&mut chip.store, black_box(address), black_box(value))))
-    }
-
-    fn read(chip: &mut Chip, address: u32) -> u32 {
-        black_box(chip.state.read(&chip.store, black_box(address))).unwrap_or(0)
-    }
-
-    fn dot(chip: &mut Chip) -> u32 {
-        number(black_box(chip.state.dot(&mut chip.store)))
-    }
-
-    fn dots(chip: &mut Chip, count: u32) -> u32 {
-        number(black_box(chip.state.dots(&mut chip.store, black_box(count))))
-    }
-}
 
 /// The number of an answer; 0 where the call was done.
 pub fn number<T>(answer: Result<T, Refusal>) -> u32 {

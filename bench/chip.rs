@@ -1,10 +1,7 @@
 //! Dots, writes and reads.
 
-use std::hint::black_box;
-use std::time::Instant;
-
-use crate::calls::{ByValue, Calls, Chip, Library, Model};
-use crate::measure::{Row, Timed, Unit, NANOSECONDS};
+use crate::calls::{ByValue, Calls, Chip, Library};
+use crate::measure::{timed, Row, Unit, Works, NANOSECONDS};
 use crate::model::chip::State;
 use crate::model::queue::{Queue, Waiting};
 
@@ -64,33 +61,19 @@ fn reads(timed: State, waiting: State) -> Vec<Row> {
     ]
 }
 
-/// Some work from a state on. Library and model must answer and leave the same.
-fn row<W: Work>(what: &str, unit: Unit, start: State) -> Row {
-    let outcome = |work: fn(&mut Chip) -> u32| {
-        let mut chip = Chip::new(start);
+/// Some work from a state on. Library and plain Rust must answer and leave the same.
+fn row<W: Work + 'static>(what: &str, unit: Unit, start: State) -> Row {
+    let outcome = |chip: &Chip, work: fn(&mut Chip) -> u32| {
+        let mut chip = chip.clone();
         (work(&mut chip), chip)
     };
-    let model = outcome(W::on::<Model>);
-    assert!(outcome(W::on::<Library>) == model && outcome(W::on::<ByValue>) == model, "{what}: not the same work");
-    Row {
-        what: what.to_string(),
+    Row::new(
+        what.to_string(),
         unit,
-        proved: timed(start, W::on::<Library>),
-        model: timed(start, W::on::<Model>),
-        by_value: Some(timed(start, W::on::<ByValue>)),
-    }
-}
-
-/// How long some work takes so many times, from a state on.
-fn timed(start: State, work: fn(&mut Chip) -> u32) -> Timed {
-    Box::new(move |times| {
-        let mut chip = Chip::new(start);
-        let clock = Instant::now();
-        for _ in 0..times {
-            black_box(work(black_box(&mut chip)));
-        }
-        clock.elapsed()
-    })
+        move || Chip::new(start),
+        move |chip| outcome(chip, W::on::<Library>) == outcome(chip, W::on::<ByValue>),
+        |chip| Works { proved: timed(&chip, W::on::<Library>), plain: timed(&chip, W::on::<ByValue>) },
+    )
 }
 
 /// What a row measures; the answer is that of the last call.

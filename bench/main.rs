@@ -1,33 +1,46 @@
-//! How long lines, dots, writes, reads and sessions take: the proved library and program beside the plain Rust model, as
-//! one table. The words are the paths of the proved program and of the model's. Without words, as on Arm, no sessions
-//! are measured.
+//! How long lines, dots, writes, reads and sessions take: the proved library and program beside plain Rust, as one table.
+//! The words are the paths of the proved program and of the plain one. Without words, as on Arm, no programs are measured.
+//! With a text in the variable `BENCH_ONLY`, only rows with that in their name are.
 
 #[path = "../tests/answers.rs"]
 mod answers;
 #[path = "../tests/by_value.rs"]
 mod by_value;
 mod calls;
+#[allow(dead_code)]
+#[path = "../tests/line/case.rs"]
+mod case;
+mod check;
 mod chip;
+#[path = "../tests/files.rs"]
+mod files;
 #[path = "../tests/library.rs"]
 mod library;
 mod line;
+#[path = "../tests/line/draw.rs"]
+mod line_draw;
 mod measure;
 #[path = "../tests/model/mod.rs"]
 mod model;
 #[path = "../tests/numbers.rs"]
 mod numbers;
-#[path = "../tests/session/recorded.rs"]
-mod recorded;
-mod session;
+mod programs;
+mod quick;
+mod recordings;
+#[path = "../tests/states.rs"]
+mod states;
 mod step;
+
+use files::recorded;
 
 fn main() {
     let words: Vec<String> = std::env::args().skip(1).collect();
     let sessions = match &words[..] {
         [] => None,
-        [proved, model] => Some(session::rows(proved, model)),
+        [proved, plain] => Some(programs::rows(proved, plain)),
         _ => panic!("the words are the paths of both programs, or none"),
     };
+    check::all();
     measure::print_head();
     for row in line::rows().chain(chip::rows()).chain([step::row()]).chain(sessions.into_iter().flatten()) {
         row.print();

@@ -1,13 +1,17 @@
-//! Rows of the table: best times of the proved code and of the model. On Arm the proved code is the library
-//! that `bench/native` compiles for Arm.
+//! Rows of the table: best times of the proved code and of plain Rust. On Arm the proved code is the library that
+//! `bench/native` compiles for Arm.
 
-use std::time::Duration;
+use std::hint::black_box;
+use std::time::{Duration, Instant};
 
 /// How often each row is measured, its columns in turn; the best time of each counts.
 const REPETITIONS: u32 = 25;
 
 /// How long one repetition takes at least: as many times the work as it needs.
 const REPETITION: Duration = Duration::from_millis(5);
+
+/// The variable that says which rows are measured: those with its text in their name.
+const ONLY: &str = "BENCH_ONLY";
 
 /// What a row's times are shown in, and how many nanoseconds that is.
 pub type Unit = (&'static str, f64);
@@ -21,38 +25,72 @@ pub const MILLISECONDS: Unit = ("ms", 1e6);
 /// How long some work takes so many times.
 pub type Timed = Box<dyn Fn(u32) -> Duration>;
 
-/// What is measured: the proved code, the model and, of calls on the chip, the model behind the library's interface.
-pub struct Row {
-    pub what: String,
-    pub unit: Unit,
+/// What a row compares.
+pub struct Works {
     pub proved: Timed,
-    pub model: Timed,
-    pub by_value: Option<Timed>,
+    pub plain: Timed,
+}
+
+/// A row, whose works are made where it is measured.
+pub struct Row {
+    what: String,
+    unit: Unit,
+    works: Box<dyn FnOnce() -> Works>,
 }
 
 /// Says what the columns are.
 pub fn print_head() {
-    println!("best of {REPETITIONS} repetitions; by value: the model behind the library's interface, state in and out by value");
-    print_columns("what", &["unit", "proved", "Rust model", "ratio", "by value", "ratio"].map(String::from));
+    println!("best of {REPETITIONS} repetitions; ratio: proved / plain Rust, calls behind the library's interface");
+    print_columns("what", &["unit", "proved", "plain Rust", "ratio"].map(String::from));
 }
 
 impl Row {
-    /// Measures, and prints what came of it.
-    pub fn print(self) {
-        let (unit, nanoseconds) = self.unit;
-        let works: Vec<Timed> = [self.proved, self.model].into_iter().chain(self.by_value).collect();
-        let times = best_times(&works);
-        let mut columns = vec![unit.to_string(), shown(times[0] / nanoseconds)];
-        for time in &times[1..] {
-            columns.extend([time / nanoseconds, times[0] / time].map(shown));
-        }
-        print_columns(&self.what, &columns);
+    /// A row whose works come of a subject, and which is not to be measured unless `same` finds that they do the same.
+    pub fn new<T: 'static>(
+        what: String,
+        unit: Unit,
+        subject: impl FnOnce() -> T + 'static,
+        same: impl FnOnce(&T) -> bool + 'static,
+        works: impl FnOnce(T) -> Works + 'static,
+    ) -> Self {
+        let name = what.clone();
+        let works = move || {
+            let subject = subject();
+            assert!(same(&subject), "{name}: not the same work");
+            works(subject)
+        };
+        Self { what, unit, works: Box::new(works) }
     }
+
+    /// Measures, and prints what came of it, unless other rows are asked for.
+    pub fn print(self) {
+        if std::env::var(ONLY).is_ok_and(|only| !self.what.contains(&only)) {
+            return;
+        }
+        let (unit, nanoseconds) = self.unit;
+        let Works { proved, plain } = (self.works)();
+        let [proved, plain] = best_times([proved, plain]);
+        let numbers = [proved / nanoseconds, plain / nanoseconds, proved / plain].map(shown);
+        print_columns(&self.what, &[&[unit.to_string()], &numbers[..]].concat());
+    }
+}
+
+/// How long some work on a subject takes so many times, each time from what the time before left.
+pub fn timed<T: Clone + 'static>(subject: &T, work: fn(&mut T) -> u32) -> Timed {
+    let subject = subject.clone();
+    Box::new(move |times| {
+        let mut subject = subject.clone();
+        let clock = Instant::now();
+        for _ in 0..times {
+            black_box(work(black_box(&mut subject)));
+        }
+        clock.elapsed()
+    })
 }
 
 /// Prints a line of the table.
 fn print_columns(what: &str, columns: &[String]) {
-    print!("{what:<56}");
+    print!("{what:<64}");
     for column in columns {
         print!("{column:>12}");
     }
@@ -69,11 +107,11 @@ fn shown(number: f64) -> String {
 }
 
 /// The best time of each work once, in nanoseconds.
-fn best_times(works: &[Timed]) -> Vec<f64> {
-    let counts: Vec<u32> = works.iter().map(times_in_repetition).collect();
-    let mut best = vec![f64::INFINITY; works.len()];
+fn best_times(works: [Timed; 2]) -> [f64; 2] {
+    let counts = works.each_ref().map(times_in_repetition);
+    let mut best = [f64::INFINITY; 2];
     for _ in 0..REPETITIONS {
-        for ((best, work), &count) in best.iter_mut().zip(works).zip(&counts) {
+        for ((best, work), count) in best.iter_mut().zip(&works).zip(counts) {
             *best = best.min(work(count).as_secs_f64() * 1e9 / f64::from(count));
         }
     }

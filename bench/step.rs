@@ -4,12 +4,12 @@ use std::hint::black_box;
 use std::time::Instant;
 
 use crate::library;
-use crate::measure::{Row, Timed, Unit};
+use crate::measure::{Row, Timed, Unit, Works};
 use crate::model::registers::STORE_WORDS;
 use crate::model::session::{self, OUTPUT_WORDS};
 use crate::model::step::{Rooms, LISTED, NORMAL_BYTES, OVERLAY_BYTES, TEXT_BYTES};
 use crate::model::windows::TABLE_BYTES;
-use crate::session::records;
+use crate::recordings::records;
 
 /// The steps of the session that is measured.
 const STEPS: u32 = 1_000_000;
@@ -17,23 +17,20 @@ const STEPS: u32 = 1_000_000;
 /// A time of that session, as that of each step.
 const A_STEP: Unit = ("ns/step", STEPS as f64);
 
-/// A million short records. Library and model must list the same.
+/// A million short records. Library and plain Rust must list the same.
 pub fn row() -> Row {
-    let what = "step of a session of writes, dots and short rows";
-    let file = records();
-    let listing = |list: fn(&[u8], &mut Vec<u8>)| {
+    let listing = |file: &[u8], list: fn(&[u8], &mut Vec<u8>)| {
         let mut listing = Vec::new();
-        list(&file, &mut listing);
+        list(file, &mut listing);
         listing
     };
-    assert!(listing(of_library) == listing(of_model), "{what}: not the same work");
-    Row {
-        what: what.to_string(),
-        unit: A_STEP,
-        proved: timed(&file, of_library),
-        model: timed(&file, of_model),
-        by_value: None,
-    }
+    Row::new(
+        "step of a session of writes, dots and short rows".to_string(),
+        A_STEP,
+        records,
+        move |file| listing(file, of_library) == listing(file, of_model),
+        |file| Works { proved: timed(&file, of_library), plain: timed(&file, of_model) },
+    )
 }
 
 /// How long it takes to list a file so many times.
