@@ -1,11 +1,11 @@
-//! Calls on a chip: the proved library's, and the model's behind the library's interface.
+//! Calls on a chip: the proved library's, and those of plain Rust behind the library's interface.
 
 use std::hint::black_box;
 
-use crate::by_value;
 use crate::library;
 use crate::model::chip::{Refusal, State};
 use crate::model::registers::STORE_WORDS;
+use crate::plain;
 
 /// A state and its store.
 #[derive(Clone, PartialEq)]
@@ -65,10 +65,10 @@ pub struct Library;
 
 calls_of!(Library, library);
 
-/// The model's, behind the library's interface.
-pub struct ByValue;
+/// Those of plain Rust.
+pub struct Plain;
 
-calls_of!(ByValue, by_value);
+calls_of!(Plain, plain);
 
 /// The number of an answer; 0 where the call was done.
 pub fn number<T>(answer: Result<T, Refusal>) -> u32 {

@@ -1,6 +1,6 @@
 //! Dots, writes and reads.
 
-use crate::calls::{ByValue, Calls, Chip, Library};
+use crate::calls::{Calls, Chip, Library, Plain};
 use crate::measure::{timed, Row, Unit, Works, NANOSECONDS};
 use crate::model::chip::State;
 use crate::model::queue::{Queue, Waiting};
@@ -71,8 +71,8 @@ fn row<W: Work + 'static>(what: &str, unit: Unit, start: State) -> Row {
         what.to_string(),
         unit,
         move || Chip::new(start),
-        move |chip| outcome(chip, W::on::<Library>) == outcome(chip, W::on::<ByValue>),
-        |chip| Works { proved: timed(&chip, W::on::<Library>), plain: timed(&chip, W::on::<ByValue>) },
+        move |chip| outcome(chip, W::on::<Library>) == outcome(chip, W::on::<Plain>),
+        |chip| Works { proved: timed(&chip, W::on::<Library>), plain: timed(&chip, W::on::<Plain>) },
     )
 }
 

@@ -1,6 +1,6 @@
-//! How long lines, dots, writes, reads and sessions take: the proved library and program beside plain Rust, as one table.
-//! The words are the paths of the proved program and of the plain one. Without words, as on Arm, no programs are measured.
-//! With a text in the variable `BENCH_ONLY`, only rows with that in their name are.
+//! How long lines, dots, writes, reads and sessions take: the proved library and program beside plain Rust, as one
+//! table. The words are the paths of the proved program and of the plain one. Without words, as on Arm, no programs are
+//! measured. Where the variable `BENCH_ONLY` has a text, only rows with that text in their name are.
 
 #[path = "../tests/answers.rs"]
 mod answers;
@@ -12,6 +12,8 @@ mod calls;
 mod case;
 mod check;
 mod chip;
+#[path = "../tests/session/damage.rs"]
+mod damage;
 #[path = "../tests/files.rs"]
 mod files;
 #[path = "../tests/library.rs"]
@@ -24,12 +26,26 @@ mod measure;
 mod model;
 #[path = "../tests/numbers.rs"]
 mod numbers;
+mod pair;
+mod plain;
 mod programs;
 mod quick;
 mod recordings;
+#[allow(dead_code)]
+#[path = "../tests/step/rooms.rs"]
+mod rooms;
+#[allow(dead_code)]
+#[path = "../tests/step/sequences.rs"]
+mod sequences;
+#[path = "../tests/session/draw.rs"]
+mod session;
 #[path = "../tests/states.rs"]
 mod states;
 mod step;
+#[path = "../tests/step/draw.rs"]
+mod step_draw;
+#[path = "../tests/session/tables.rs"]
+mod tables;
 
 use files::recorded;
 
@@ -42,7 +58,7 @@ fn main() {
     };
     check::all();
     measure::print_head();
-    for row in line::rows().chain(chip::rows()).chain([step::row()]).chain(sessions.into_iter().flatten()) {
+    for row in line::rows().chain(chip::rows()).chain(step::rows()).chain(sessions.into_iter().flatten()) {
         row.print();
     }
 }

@@ -9,10 +9,16 @@ const LINES: u16 = 2000;
 /// The seed of what is in the files.
 const SEED: u64 = 20_010_417;
 
+/// A row and a line of it, without an end, at a depth with an entry for window 0.
+pub fn one_line(entry: u32, depth: u32) -> Vec<u8> {
+    let row = row(&mut Numbers::new(SEED), 2048 * depth / 8);
+    [screen(entry, depth), recorded::normal(&row), recorded::line(1000)].concat()
+}
+
 /// A row of 8-8-8 and a line, again and again; window 0 goes through a gamma of random words.
 pub fn lines() -> Vec<u8> {
     let mut numbers = Numbers::new(SEED);
-    let mut file = screen(0x0A);
+    let mut file = screen(0x0A, 32);
     for word in 0..256 {
         file.extend(recorded::write(0x03_0000 + 4 * word, numbers.next() & 0xFF_FFFF));
     }
@@ -26,7 +32,7 @@ pub fn lines() -> Vec<u8> {
 
 /// One row of 8-8-8, of which line after line is drawn; window 0 bypasses gamma.
 pub fn same_row() -> Vec<u8> {
-    let mut file = screen(0x20A);
+    let mut file = screen(0x20A, 32);
     file.extend(recorded::normal(&row(&mut Numbers::new(SEED), 8192)));
     for y in 0..LINES {
         file.extend(recorded::line(y));
@@ -64,9 +70,10 @@ pub fn rows_alone(bytes: usize) -> Vec<u8> {
     file
 }
 
-/// A screen of 2,048 by 2,048 at depth 32 with an entry for window 0.
-fn screen(entry: u32) -> Vec<u8> {
-    let writes = [(0x00, 0x10), (0x04, 0x07FF_07FF), (0x1C, 0x07FF_07FF), (0x01_0000, entry)];
+/// A screen of 2,048 by 2,048 at a depth, with an entry for window 0.
+fn screen(entry: u32, depth: u32) -> Vec<u8> {
+    let switches = if depth == 32 { 0x10 } else { 0 };
+    let writes = [(0x00, switches), (0x04, 0x07FF_07FF), (0x1C, 0x07FF_07FF), (0x01_0000, entry)];
     writes.into_iter().flat_map(|(address, value)| recorded::write(address, value)).collect()
 }
 

@@ -11,12 +11,12 @@ pub fn each<const N: usize>(normal: &[u8], output: &mut [u32], colour: impl Fn([
 /// The same for pixels of 4 bytes, four at a time, which is quicker where colours are looked up.
 #[inline(always)]
 pub fn fours_of_32(normal: &[u8], output: &mut [u32], colour: impl Fn([u8; 4]) -> u32) {
-    let (fours, rest) = normal.as_chunks::<16>();
+    let (fours, rest) = normal.as_chunks::<4>().0.as_chunks::<4>();
     let (outputs, output) = output.as_chunks_mut::<4>();
     for (four, output) in fours.iter().zip(outputs) {
-        each(four, output, &colour);
+        *output = four.map(&colour);
     }
-    each(rest, output, colour);
+    each(rest.as_flattened(), output, colour);
 }
 
 /// The same for pixels of 2 bytes, of which four are loaded as one number.

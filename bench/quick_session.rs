@@ -1,16 +1,14 @@
-//! The plain model as a program: lists each session file that is named, or else what comes in.
+//! Plain Rust as a program: lists each session file that is named, or else what comes in.
 
 #[path = "../tests/model/mod.rs"]
 mod model;
+mod quick;
 
 use std::fs::File;
-use std::io::{self, BufReader, BufWriter, Read, Write};
+use std::io::{self, Read};
 use std::process::ExitCode;
 
-use model::session;
-
-/// How much is read, and how much is written, at a time.
-const BUFFER: usize = 1 << 16;
+use quick::session;
 
 fn main() -> ExitCode {
     let mut names = std::env::args().skip(1).peekable();
@@ -26,10 +24,9 @@ fn main() -> ExitCode {
     code
 }
 
+/// Writes the listing of a file.
 fn list(file: impl Read) -> io::Result<()> {
-    let mut listing = BufWriter::with_capacity(BUFFER, io::stdout().lock());
-    session::list(BufReader::with_capacity(BUFFER, file), &mut listing)?;
-    listing.flush()
+    session::list(file, io::stdout().lock())
 }
 
 /// Tells of a file that can't be read, or of a listing that can't be written.
