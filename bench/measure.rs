@@ -40,7 +40,7 @@ pub struct Row {
 
 /// Says what the columns are.
 pub fn print_head() {
-    println!("best of {REPETITIONS} repetitions; ratio: proved / plain Rust, calls behind the library's interface");
+    println!("best of {REPETITIONS} repetitions; ratio: proved / plain Rust; calls and steps go by value in both");
     print_columns("what", &["unit", "proved", "plain Rust", "ratio"].map(String::from));
 }
 
@@ -90,7 +90,7 @@ pub fn timed<T: Clone + 'static>(subject: &T, work: fn(&mut T) -> u32) -> Timed 
 
 /// Prints a line of the table.
 fn print_columns(what: &str, columns: &[String]) {
-    print!("{what:<64}");
+    print!("{what:<68}");
     for column in columns {
         print!("{column:>12}");
     }

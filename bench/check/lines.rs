@@ -20,7 +20,7 @@ const WIDTHS: [u32; 14] = [1, 2, 3, 4, 5, 7, 16, 511, 512, 640, 1023, 1024, 2047
 /// What a line may come to: 0 where it is drawn, or the number of its refusal.
 const NUMBERS: [u32; 8] = [0, 5, 6, 7, 8, 9, 10, 11];
 
-/// Random lines, and then one of each window entry at each depth.
+/// Random lines, one past the frame entries that are looked at, and one of each window entry at each depth.
 pub fn compare(numbers: &mut Numbers) {
     let (mut background, mut met) = (Vec::new(), [false; 12]);
     for number in 0..LINES {
@@ -33,6 +33,7 @@ pub fn compare(numbers: &mut Numbers) {
     for number in NUMBERS {
         assert!(met[number as usize], "no line came to {number}");
     }
+    assert!(same(&past_frame_entries(numbers, &background)) == 7, "too many frame entries were looked at");
     for depth in [16, 32] {
         for entry in (0..0x800).filter(|&entry| defined(entry, depth)) {
             background[0] = entry;
@@ -59,6 +60,16 @@ fn of_one_window(numbers: &mut Numbers, depth: u32, store: &[u32]) -> Case {
         overlay: (0..width).map(|_| (numbers.next() * numbers.below(2)) as u8).collect(),
         output: vec![0; 2048],
     }
+}
+
+/// A line that only the 2,049th frame entry serves.
+fn past_frame_entries(numbers: &mut Numbers, store: &[u32]) -> Case {
+    let mut case = of_one_window(numbers, 16, store);
+    case.state.control[0] = 2;
+    case.y = 1;
+    case.table = vec![0; 4 * 2048];
+    case.table.extend(0x07FF_1000_u32.to_be_bytes());
+    case
 }
 
 /// Draws a line by both, compares the answer and the whole output, and answers the number.
