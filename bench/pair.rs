@@ -33,6 +33,7 @@ pub struct Pair {
 }
 
 impl Pair {
+    /// Rooms of zeros for each.
     pub fn new() -> Self {
         Self { plain: Rooms::new(), model: Rooms::new() }
     }

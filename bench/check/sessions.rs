@@ -14,8 +14,10 @@ use crate::sequences::Given;
 use crate::session;
 use crate::step_draw;
 
-/// How many random files are stepped through, and how many are listed, every second one damaged.
+/// How many random files are stepped through.
 const SEQUENCES: u32 = 2000;
+
+/// How many random files are listed, every second one damaged.
 const FILES: u32 = 1000;
 
 /// Steps, some of them lent what they refuse, and listings of files that come in pieces.

@@ -83,6 +83,7 @@ struct Blank {
 }
 
 impl Blank {
+    /// By its control word.
     fn new(word: u32) -> Self {
         Self { on: word & 0xFFF, off: word >> 16 & 0xFFF }
     }

@@ -22,22 +22,27 @@ impl Entry {
         (spare == 0 && listed >> (word & 15) & 1 == 1 && in_bank).then_some(Self(word as u16))
     }
 
+    /// Whether the sample is in the high half of a pixel.
     pub fn high_half(self) -> bool {
         self.0 & 1 == 1
     }
 
+    /// The format, by its number.
     pub fn format(self) -> u16 {
         self.0 >> 1 & 7
     }
 
+    /// The bank of an index of 8 bits.
     pub fn bank(self) -> usize {
         usize::from(self.0 >> 4 & 31)
     }
 
+    /// Whether gamma is bypassed.
     pub fn bypass(self) -> bool {
         self.0 >> 9 & 1 == 1
     }
 
+    /// Whether overlay is allowed.
     pub fn overlay(self) -> bool {
         self.0 >> 10 & 1 == 1
     }

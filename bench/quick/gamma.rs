@@ -42,18 +42,22 @@ pub struct Gamma<'a> {
 }
 
 impl<'a> Gamma<'a> {
+    /// A map that nothing was split of yet.
     pub fn new(map: &'a Palette) -> Self {
         Self { map, of_8: OnceCell::new(), of_5: OnceCell::new(), of_4: OnceCell::new() }
     }
 
+    /// For channels of 8 bits.
     pub fn of_8(&self) -> &Channels<256> {
         self.of_8.get_or_init(|| Channels::new(self.map, |value| value))
     }
 
+    /// For channels of 5 bits.
     pub fn of_5(&self) -> &Channels<32> {
         self.of_5.get_or_init(|| Channels::new(self.map, |value| value << 3 | value >> 2))
     }
 
+    /// For channels of 4 bits.
     pub fn of_4(&self) -> &Channels<16> {
         self.of_4.get_or_init(|| Channels::new(self.map, |value| 17 * value))
     }

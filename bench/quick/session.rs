@@ -58,10 +58,12 @@ struct Source<R> {
 }
 
 impl<R: Read> Source<R> {
+    /// A file of which nothing was read yet.
     fn new(file: R) -> Self {
         Self { file, buffer: vec![0; LONGEST_RECORD + BUFFER], first: 0, past: 0 }
     }
 
+    /// The bytes that are not yet used up.
     fn rest(&self) -> &[u8] {
         &self.buffer[self.first..self.past]
     }
@@ -91,6 +93,7 @@ struct Listing<W> {
 }
 
 impl<W: Write> Listing<W> {
+    /// A listing without text.
     fn new(to: W) -> Self {
         Self { to, buffer: vec![0; BUFFER + TEXT_BYTES], past: 0 }
     }
@@ -103,6 +106,7 @@ impl<W: Write> Listing<W> {
         Ok(&mut self.buffer[self.past..])
     }
 
+    /// Writes all text.
     fn flush(&mut self) -> io::Result<()> {
         self.to.write_all(&self.buffer[..self.past])?;
         self.past = 0;
