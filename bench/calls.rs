@@ -3,7 +3,7 @@
 use std::hint::black_box;
 
 use crate::library;
-use crate::model::chip::{Refusal, State};
+use crate::model::chip::State;
 use crate::model::registers::STORE_WORDS;
 use crate::plain;
 
@@ -69,8 +69,3 @@ calls_of!(Library, library);
 pub struct Plain;
 
 calls_of!(Plain, plain);
-
-/// The number of an answer; 0 where the call was done.
-pub fn number<T>(answer: Result<T, Refusal>) -> u32 {
-    answer.map_or_else(|(number, _)| number, |_| 0)
-}

@@ -2,14 +2,12 @@
 
 use std::hint::black_box;
 
-use crate::calls::number;
 use crate::library;
 use crate::measure::{timed, Row, Works, NANOSECONDS};
 use crate::model::chip::State;
-use crate::model::line::Lent;
 use crate::model::registers::STORE_WORDS;
 use crate::numbers::Numbers;
-use crate::quick;
+use crate::plain;
 
 /// The pixels of a line, and how they are called.
 const WIDTHS: [(usize, &str); 2] = [(2048, "line of 2,048"), (640, "line of 640")];
@@ -173,5 +171,7 @@ fn of_library(line: &mut Line) -> u32 {
 /// Draws by plain Rust, alike.
 fn of_plain(line: &mut Line) -> u32 {
     let Line { state, store, table, normal, overlay, output } = line;
-    number(black_box(quick::line(state, black_box(Y), Lent { store, table, normal, overlay }, output)))
+    let answer = plain::line(*state, black_box(Y), store, table, normal, overlay, output);
+    line.state = black_box(&answer).state;
+    answer.number
 }

@@ -4,23 +4,27 @@
 // A slice goes as its pointer and its length, as in the library.
 #![allow(improper_ctypes_definitions)]
 
-use crate::answers::Dotted;
-pub use crate::by_value::{dot, read, write};
+use crate::answers::Drawn;
+pub use crate::by_value::{dot, dots, read, write};
 use crate::model::chip::State;
+use crate::model::line::Lent;
 use crate::model::step::{Held, Rooms, Stepped};
-use crate::quick::chip::checked_dots;
-use crate::quick::step;
+use crate::quick::{self, step};
 
-/// So many dots.
-#[export_name = "quick_dots"]
+/// One drawn line.
+#[export_name = "quick_line"]
 #[inline(never)]
-pub extern "C" fn dots(mut state: State, store: &mut [u32], count: u32) -> Dotted {
-    let answer = checked_dots(&mut state, store, count);
-    let (number, place) = answer.err().unwrap_or_default();
-    let signals = answer.ok().flatten();
-    let [hsync, vsync, blank] =
-        signals.map_or([0; 3], |signals| [signals.hsync, signals.vsync, signals.blank].map(u32::from));
-    Dotted { state, number, place, reported: signals.is_some().into(), hsync, vsync, blank }
+pub extern "C" fn line(
+    state: State,
+    y: u32,
+    store: &[u32],
+    table: &[u8],
+    normal: &[u8],
+    overlay: &[u8],
+    output: &mut [u32],
+) -> Drawn {
+    let (number, place) = quick::line(&state, y, Lent { store, table, normal, overlay }, output).err().unwrap_or_default();
+    Drawn { state, number, place }
 }
 
 /// One step of a session.

@@ -3,6 +3,7 @@
 mod colours;
 mod examples;
 mod layers;
+mod lengths;
 mod refusals;
 mod tables;
 
@@ -14,7 +15,7 @@ use crate::pair::{Compared, Pair, Wanted};
 pub type Vector = (&'static str, fn(&mut Pair) -> Compared<()>);
 
 pub fn all() -> Vec<Vector> {
-    [&examples::VECTORS[..], &colours::VECTORS, &layers::VECTORS, &tables::VECTORS, &refusals::VECTORS].concat()
+    [&examples::VECTORS[..], &colours::VECTORS, &layers::VECTORS, &lengths::VECTORS, &tables::VECTORS, &refusals::VECTORS].concat()
 }
 
 /// Bits of control word 0.
