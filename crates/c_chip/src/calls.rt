@@ -82,16 +82,15 @@ pub extern "C" fn bulitampaw_write(
     }
 }
 
-// One register read.
+// One register read. It changes nothing, so the state that came goes back.
 #[no_mangle]
 pub extern "C" fn bulitampaw_read(state: State, store: &[u32], address: u32) -> ReadBackNumbers
     ensures { λ r. ⌜ r ≡ readInNumbers (state, now (store .entry)) address ⌝ }
 {
     let read = state.read(store, address);
     let answer = read.answer;
-    let next = read.state;
     ReadBackNumbers {
-        state: next,
+        state,
         refusal: of_read(answer),
         word: word_read(answer),
     }
@@ -127,7 +126,7 @@ pub extern "C" fn bulitampaw_dots(state: State, store: &mut [u32], count: u32) -
     }
 }
 
-// One drawn line.
+// One drawn line. It changes no state, so the one that came goes back.
 #[no_mangle]
 pub extern "C" fn bulitampaw_line(
     state: State,
@@ -143,9 +142,8 @@ pub extern "C" fn bulitampaw_line(
     let request = Request { state, y };
     let drawn = line::draw::draw(request, store, table, normal, overlay, output);
     let answer = drawn.answer;
-    let next = drawn.state;
     DrawnNumbers {
-        state: next,
+        state,
         refusal: of_answer(answer),
     }
 }

@@ -1,9 +1,11 @@
 -- What a read comes to, case by case in the order of its faults. Assumes nothing.
 use Prim.Native.Nat.{ℕ}
 use mathlib.Core.Path.{_≡_, refl, ap, sym, _∙_}
+use mathlib.Core.Bool.{Bool, true, false, cond}
+use mathlib.Core.List.{List, [], _∷_}
 use lib.ListN.{length}
 use Rattle.rules.specs.Rule.{Outcome, ok, refused, andThen}
-use Rattle.rules.specs.Faults.{Numbered}
+use Rattle.rules.specs.Faults.{Numbered, Fault, unless}
 use Rattle.rules.specs.Checked.{verdict}
 use Rattle.refusals.specs.Refusal.{numbered}
 use Rattle.refusals.specs.declared.Refusal.the-variants.{NoRegister}
@@ -14,6 +16,22 @@ use Rattle.chip_registers.specs.declared.Named.the-variants.{Is, Nothing}
 use Rattle.chip.specs.Call.{Chip, callFaults}
 use Rattle.chip.specs.Read.{registerShows, addressShows, nameFaults, readFaults, readBack}
 use Rattle.chip.proofs.CallCheck.{tested, GoesOn, first-then, passes, stops}
+
+-- a call that does nothing leaves all as it was, refused or not
+unless-same : {Memory Answer : Type 0} (before : Memory) (answer : Answer) (faults : List Fault) → unless faults before (before, answer) .0 ≡ before
+unless-same before answer [] = refl
+unless-same before answer (fault ∷ faults) = by (fault .holds) (unless-same before answer faults)
+  where
+    -- by whether the first fault holds, else by those behind it
+    by : (test : Bool) → unless faults before (before, answer) .0 ≡ before
+        → cond test (before, refused (fault .refusal)) (unless faults before (before, answer)) .0 ≡ before
+    by true rest = refl
+    by false rest = rest
+
+-- a read leaves all as it was, refused or not
+pub read-same : (chip : Chip) (address : ℕ) → readBack chip address .0 ≡ chip
+unfolding readBack
+read-same chip address = unless-same chip (addressShows chip (named address)) (readFaults chip address)
 
 module _ (chip : Chip) (address : ℕ) where
   -- a read by its first test, and then by what its address names

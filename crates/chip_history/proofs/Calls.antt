@@ -17,11 +17,11 @@ use Rattle.chip.specs.declared.report.Report.{Report}
 use Rattle.chip.specs.declared.report.Report.the-variants.{Last}
 use Rattle.chip.proofs.Good.{put-whole, dot-whole, dots-whole}
 use Rattle.chip.proofs.CallCheck.{tested, GoesOn}
+use Rattle.chip.proofs.Readings.{read-same}
 use Rattle.chip.proofs.Runs.{dot-unfit, dot-done, dots-unfit, dots-done}
 use Rattle.chip_history.specs.Calls.{Call, write, read, dot, dots, line, leftBy, end}
 use Rattle.chip_history.specs.Ledger.{colourWrite, accepts, accepted, blankedBy, blankedDots, blanks, blanked}
 use Rattle.chip_history.proofs.Wrote.{Put, Wrote, nothing, into, wrote}
-use Rattle.chip_history.proofs.Refused.{read-same}
 use Rattle.chip_history.proofs.DotByDot.{dots-as-dots}
 
 -- ---- the arrays keep their sizes

@@ -52,22 +52,6 @@ refused-same chip call refusal e = exactly-refused chip call refusal (real call 
     real : (call : Call) → RefusedBy chip call refusal → call ≡ line → ⊥
     real call e same = subst (λ (call : Call). RefusedBy chip call refusal) same e
 
--- a call that does nothing leaves all as it was, refused or not
-unless-same : {Memory Answer : Type 0} (before : Memory) (answer : Answer) (faults : List Fault) → unless faults before (before, answer) .0 ≡ before
-unless-same before answer [] = refl
-unless-same before answer (fault ∷ faults) = by (fault .holds) (unless-same before answer faults)
-  where
-    -- by whether the first fault holds, else by those behind it
-    by : (test : Bool) → unless faults before (before, answer) .0 ≡ before
-        → cond test (before, refused (fault .refusal)) (unless faults before (before, answer)) .0 ≡ before
-    by true rest = refl
-    by false rest = rest
-
--- a read leaves all as it was, refused or not
-pub read-same : (chip : Chip) (address : ℕ) → readBack chip address .0 ≡ chip
-unfolding readBack
-read-same chip address = unless-same chip (addressShows chip (named address)) (readFaults chip address)
-
 -- none of some faults that holds has this number
 abbrev Avoids : ℕ → List Fault → Type 0
 Avoids number [] = Unit {0}
