@@ -3,6 +3,7 @@ pub mod Words
 pub mod Good
 pub mod CallCheck
 pub mod Runs
+pub mod Passes
 pub mod Writes
 pub mod Readings
 pub mod Shown

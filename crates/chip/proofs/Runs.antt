@@ -1,4 +1,4 @@
--- Runs of dots that only move the position, and what is left of a run. Assumes nothing.
+-- Runs of dots that only move the position, and what a dot and a run of dots come to. Assumes nothing.
 use Prim.Native.Nat.{ℕ, zero, suc, _+_, _-_, _≤_, _<_}
 use mathlib.Core.Path.{_≡_, refl, ap, sym, _∙_}
 use mathlib.Core.Bool.{Bool, true, false, cond, _&&_}
@@ -13,7 +13,6 @@ use Rattle.chip_timing.specs.Signals.{signalsAt}
 use Rattle.chip_timing.specs.Move.{positionAfter}
 use Rattle.chip_timing.specs.Walk.{walked}
 use Rattle.chip_timing.specs.declared.Position.{Position}
-use Rattle.chip_timing.specs.declared.Walk.{Walk}
 use Rattle.chip_timing.proofs.Walked.{walk-stops, walk-runs, walk-left-le, walk-at}
 use Rattle.chip_registers.specs.Store.{storeLength}
 use Rattle.chip_queue.proofs.Rule.{both}
@@ -21,7 +20,6 @@ use Rattle.chip.specs.State.{controlWord, windowsOf, withPosition, goodS
 use Rattle.chip.specs.Call.{Chip, callFaults}
 use Rattle.chip.specs.Dot.{signalsOf, drains, oldestApplied, moved, afterDot, dotted}
 use Rattle.chip.specs.Dots.{afterDots, lastReport, ran}
-use Rattle.chip.specs.Inner.{walk}
 use Rattle.chip.specs.declared.state.State.{State}
 use Rattle.chip.specs.declared.report.Report.the-variants.{Nothing, Last}
 use Rattle.chip.proofs.Good.{dot-length, dot-whole, dot-good, placed-good, dots-add}
@@ -81,85 +79,6 @@ dots-walk count state store =
     walk-runs (windowsOf state) (state .at) (controlWord state 1) count
     (λ (left : ℕ) (at : Position). afterDots left (withPosition state at, store))
     (λ left at clear. ap (afterDots left) (idle-dot (withPosition state at) store (not-blanked (withPosition state at) store clear)))
-
--- ---- what is left of a run
-
--- dots that only move lead to a good state with some of the dots left, and doing those leaves what doing all leaves
-abbrev Onward : State → ℕ → Walk → Type 0
-Onward state count walk =
-    (goodState (withPosition state (walk .at)) ≡ true)
-    × (walk .left ≤ count)
-    × ((store : List ℕ) → afterDots count (state, store) ≡ afterDots (walk .left) (withPosition state (walk .at), store))
-
--- on to the next blanked dot
-abbrev to-blank : State → ℕ → Walk
-to-blank state count = walked (windowsOf state) (state .at) (controlWord state 1) count
-
--- the walk of the code passes over dots that only move
-pub onward : (state : State) (count : ℕ) → goodState state ≡ true → Onward state count (walk state count)
-unfolding walk afterDots
-onward state count good = by (eqb (state .queue .waiting) 0) refl
-  where
-    -- by whether nothing waits: all dots only move, or those up to the next blanked one
-    by : (none : Bool) → eqb (state .queue .waiting) 0 ≡ none
-        → Onward state count (cond none (record { at = positionAfter (state .at) count (controlWord state 1); left = 0 }) (to-blank state count))
-    by true none =
-        (placed-good state count (controlWord state 1) good, omega arith, λ (store : List ℕ). dots-none-wait count state store (eqb-true _ _ none))
-    by false some = (
-      rw (walk-at (windowsOf state) (state .at) (controlWord state 1) count) (placed-good state (count - to-blank state count .left) (controlWord state 1) good),
-      walk-left-le (windowsOf state) (state .at) (controlWord state 1) count,
-      λ (store : List ℕ). dots-walk count state store,
-    )
-
--- a walk that leaves dots ends at a blanked position
-pub walk-blanked : (state : State) (count : ℕ) → 0 < walk state count .left → signalsOf (withPosition state (walk state count .at)) .blank ≡ true
-unfolding walk
-walk-blanked state count = by (eqb (state .queue .waiting) 0)
-  where
-    -- by whether nothing waits: then no dot is left
-    by : (none : Bool)
-        → let there = cond none (record { at = positionAfter (state .at) count (controlWord state 1); left = 0 }) (to-blank state count) in
-        0 < there .left → signalsAt (windowsOf state) (there .at) .blank ≡ true
-    by true more = absurd (omega arith)
-    by false more = walk-stops (windowsOf state) (state .at) (controlWord state 1) count more
-
--- what stays true while dots are left: the sizes, the rule, and where those dots lead
-abbrev pub Underway : Chip → ℕ → Chip → ℕ → Type 0
-Underway start count chip left =
-    (length (chip .1) ≡ length (start .1))
-    × HasArrays (chip .0)
-    × (goodState (chip .0) ≡ true)
-    × (length (chip .1) ≡ storeLength)
-    × (afterDots left chip ≡ afterDots count start)
-
-module _ (start : Chip) (count : ℕ) (state : State) (store : List ℕ) (left : ℕ) (here : Underway start count (state, store) left) where
-  -- where the walk ends, the dots that are left after it lead where all lead
-  walk-leads : let there = walk state left in
-      afterDots (there .left) (withPosition state (there .at), store) ≡ afterDots count start
-  walk-leads = sym (onward state left (here .2) .2 store) ∙ here .4
-
-  -- a walk that leaves no dot ends the run
-  pub walk-over : walk state left .left ≡ 0
-      → ((withPosition state (walk state left .at), store) ≡ afterDots count start)
-      × (goodState (withPosition state (walk state left .at)) ≡ true)
-      × (length store ≡ storeLength)
-  unfolding afterDots
-  walk-over none =
-      (ap (λ (rest : ℕ). afterDots rest (withPosition state (walk state left .at), store)) (sym none) ∙ walk-leads, onward state left (here .2) .0, here .3)
-
-  -- where the walk leaves dots, the next one is done, and fewer are left
-  pub walk-on : 0 < walk state left .left
-      → Underway start count (afterDot (withPosition state (walk state left .at), store)) (walk state left .left - 1)
-  unfolding afterDots
-  walk-on more =
-      let there : Chip = (withPosition state (walk state left .at), store) in
-      let one-more : suc (walk state left .left - 1) ≡ walk state left .left = omega arith in (
-        dot-length there ∙ here .0,
-        dot-whole there (here .1),
-        dot-good there (here .1) (onward state left (here .2) .0),
-        dot-length there ∙ here .3,
-        ap (λ (rest : ℕ). afterDots rest there) one-more ∙ walk-leads,
-      )
 
 -- ---- what a dot and a run of dots come to
 

@@ -1,21 +1,24 @@
 -- What functions inside the crate answer to each other. No contract of a public function cites these.
-use Prim.Native.Nat.{ℕ}
+use Prim.Native.Nat.{ℕ, zero, suc, _≤_, _<_}
 use mathlib.Core.Path.{_≡_}
-use mathlib.Core.Bool.{Bool, cond}
-use lib.Dec.{eqb}
+use mathlib.Core.Bool.{Bool, true}
+use mathlib.Core.List.{List}
 use Rattle.rules.specs.Rule.{Outcome, ok, refused, andThen}
 use Rattle.rules.specs.Faults.{Numbered}
 use Rattle.rules.specs.Checked.{verdict}
 use Rattle.refusals.specs.Refusal.{numbered, answerOutcome}
 use Rattle.refusals.specs.declared.Answer.{Answer}
-use Rattle.chip_timing.specs.Move.{positionAfter}
-use Rattle.chip_timing.specs.Walk.{walked}
+use Rattle.chip_timing.specs.Signals.{signalsAt}
 use Rattle.chip_timing.specs.declared.Walk.{Walk}
 use Rattle.chip_registers.specs.declared.Named.{Named}
 use Rattle.chip_registers.specs.declared.Named.the-variants.{Is}
-use Rattle.chip.specs.State.{controlWord, windowsOf}
+use Rattle.chip.specs.State.{windowsOf}
+use Rattle.chip.specs.Call.{Chip}
 use Rattle.chip.specs.Write.{addressFaults}
+use Rattle.chip.specs.Dot.{oldestApplied}
+use Rattle.chip.specs.Dots.{afterDots}
 use Rattle.chip.specs.declared.state.State.{State}
+use Rattle.chip.specs.declared.pass.Pass.{Pass}
 use Rattle.chip.specs.declared.write.Verdict.{Verdict}
 use Rattle.chip.specs.declared.write.Verdict.the-variants.{To, Refused}
 
@@ -28,8 +31,20 @@ abbrev pub Judged : Outcome Numbered (Unit {0}) → Named → Verdict → Type 0
 Judged test what (To register) = (test ≡ ok tt) × (what ≡ Is register)
 Judged test what (Refused refusal) = test ≡ refused (numbered refusal)
 
--- on over dots that only move: all of them where nothing waits, else those before the next blanked one
-unfoldable pub walk : State → ℕ → Walk
-walk state count =
-    cond (eqb (state .queue .waiting) 0) (record { at = positionAfter (state .at) count (controlWord state 1); left = 0 })
-    (walked (windowsOf state) (state .at) (controlWord state 1) count)
+-- so many of the oldest writes are applied, one after the other
+unfoldable pub appliedBy : ℕ → Chip → Chip
+appliedBy zero chip = chip
+appliedBy (suc count) chip = oldestApplied (appliedBy count chip)
+
+-- the chip behind dots that come so far: so many writes are applied, and the beam is there
+abbrev pub behind : Chip → Pass → Chip
+behind chip pass =
+    let applied = appliedBy (pass .taken) chip in
+    (record { control = chip .0 .control; at = pass .at; queue = applied .0 .queue }, applied .1)
+
+-- a walk over some of the dots behind others: those left lead where all lead, and the first of them is blanked
+abbrev pub WalksOn : State → Pass → ℕ → Walk → Type 0
+WalksOn state pass count walk =
+    (walk .left ≤ count)
+    × (0 < walk .left → signalsAt (windowsOf state) (walk .at) .blank ≡ true)
+    × ((store : List ℕ) → afterDots count (behind (state, store) pass) ≡ afterDots (walk .left) (behind (state, store) (record { at = walk .at; taken = pass .taken })))

@@ -1,36 +1,27 @@
 // Many dots at once.
+ghost use Prim.Native.Nat.{ℕ, _≤_};
 ghost use mathlib.Core.Path.{_≡_};
-ghost use mathlib.Core.Bool.{true};
-ghost use lib.ListN.{length};
-ghost use Rattle.chip_registers.specs.Store.{storeLength};
-ghost use Rattle.chip.specs.State.{goodState, withPosition};
+ghost use mathlib.Core.List.{List};
 ghost use Rattle.chip.specs.Report.{dotsOutcome};
 ghost use Rattle.chip.specs.Dots.{afterDots, ran};
-ghost use Rattle.chip.specs.Inner.{walk};
+ghost use Rattle.chip.specs.Inner.{behind, WalksOn};
+use crate::pass::Pass;
 use crate::report::DotsAnswer;
 use crate::report::Dotted;
 use crate::report::Report;
 use crate::state::State;
-use chip_timing::Position;
 use chip_timing::Walk;
 use refusals::Answer;
 
 impl State {
-    // The state at another position.
-    fn at_position(mut self, at: Position) -> Self
-        ensures { λ r. ⌜ r ≡ withPosition self at ⌝ }
+    // On over dots that only move: all of them where nothing waits any more, else those before the next blanked one.
+    fn walk(self, pass: Pass, count: u32) -> Walk
+        requires { ⌜ pass .taken ≤ self .queue .waiting ⌝ }
+        ensures { λ r. ⌜ WalksOn self pass count r ⌝ }
     {
-        self.at = at;
-        self
-    }
-
-    // On over dots that only move: all of them where nothing waits, else those before the next blanked one.
-    fn walk(self, count: u32) -> Walk
-        ensures { λ r. ⌜ r ≡ walk self count ⌝ }
-    {
-        let at = self.at;
+        let at = pass.at;
         let total = self.control[1];
-        if self.queue.waiting == 0 {
+        if self.queue.waiting == pass.taken {
             return Walk {
                 at: at.after(count, total),
                 left: 0,
@@ -39,23 +30,27 @@ impl State {
         self.windows().to_blank(at, total, count)
     }
 
-    // What so many dots leave: those that only move are passed over at once.
-    fn steps(self, store: &mut [u32], count: u32) -> Self
-        requires { ⌜ (goodState self ≡ true) × (length (now store) ≡ storeLength) ⌝ }
-        ensures { λ r. ⌜ ((r, now (store .exit)) ≡ afterDots count (self, now (store .entry))) × (goodState r ≡ true) × (length (now (store .exit)) ≡ storeLength) ⌝ }
+    // How far so many dots come: those that only move are passed over at once.
+    fn pass(self, count: u32) -> Pass
+        ensures { λ r. ⌜ (r .taken ≤ self .queue .waiting) × ((store : List ℕ) → behind (self, store) r ≡ afterDots count (self, store)) ⌝ }
     {
-        let mut state = self;
+        let at = self.at;
+        let mut pass = Pass { at, taken: 0 };
         let mut left = count;
         while 0 < left {
-            let walk = state.walk(left);
-            let there = state.at_position(walk.at);
+            let walk = self.walk(pass, left);
+            let at = walk.at;
+            let there = Pass {
+                at,
+                taken: pass.taken,
+            };
             if walk.left == 0 {
                 return there;
             }
-            state = there.step(store, true);
+            pass = self.one_more(there, true);
             left = walk.left - 1;
         }
-        state
+        pass
     }
 
     // So many dots.
@@ -75,11 +70,19 @@ impl State {
                 answer: DotsAnswer::Reported(Report::Nothing),
             };
         }
-        let before = self.steps(store, count - 1);
-        let signals = before.signals();
+        let before = self.pass(count - 1);
+        let signals = self.signals(before.at);
+        let pass = self.one_more(before, signals.blank);
+        let answer = DotsAnswer::Reported(Report::Last(signals));
+        if pass.taken == 0 {
+            return Dotted {
+                state: self.at_position(pass.at),
+                answer,
+            };
+        }
         Dotted {
-            state: before.step(store, signals.blank),
-            answer: DotsAnswer::Reported(Report::Last(signals)),
+            state: self.after(store, pass),
+            answer,
         }
     }
 }

@@ -1,6 +1,7 @@
 // The chip: its state, register writes and reads, and dots.
 pub mod dot;
 pub mod dots;
+mod pass;
 pub mod read;
 pub mod report;
 pub mod state;

@@ -1,10 +1,10 @@
--- `chip::dot::drains` meets its contract: both tests, one after the other. Assumes nothing.
+-- `chip::pass::drains` meets its contract: both tests, one after the other. Assumes nothing.
 use mathlib.Core.Path.{ap, sym}
 use mathlib.Core.Bool.{Bool, _&&_}
 use borrow.Author.Needs.{needs}
 use lib.Dec.{ltb}
-use Rattle.chip.proofs.dot.drains.Statement.{statement}
-use Rattle.chip.proofs.dot.drains.Tie as tie
+use Rattle.chip.proofs.pass.drains.Statement.{statement}
+use Rattle.chip.proofs.pass.drains.Tie as tie
 
 returns : tie.Need-returns
 returns c = sym (ap (λ (blank : Bool). blank && ltb 0 (c .before .args .waiting)) (c .if1 .taken))
