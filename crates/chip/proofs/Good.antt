@@ -7,9 +7,7 @@ use native.Mathlib.Nat.{add-zero, zero-add, suc-add}
 use native.Mathlib.Omega.{arith}
 use borrow.Author.Tests.{leb-true, leb-false, le-leb}
 use lib.ListN.{length, set, length-set}
-use Rattle.chip_timing.specs.Move.{positionAfter}
 use Rattle.chip_timing.proofs.Move.{next-x-lt, next-y-lt}
-use Rattle.chip_timing.proofs.After.{after-x-lt, after-y-lt}
 use Rattle.chip_registers.specs.Blocks.{count}
 use Rattle.chip_registers.specs.Kept.{keptOfControl, fits}
 use Rattle.chip_registers.specs.Access.{waitsIn, waits}
@@ -23,7 +21,7 @@ use Rattle.chip_queue.specs.declared.Waiting.{Waiting}
 use Rattle.chip_queue.specs.declared.Queue.{Queue}
 use Rattle.chip_queue.proofs.Order.{sized-pushed, sized-popped}
 use Rattle.chip_queue.proofs.Rule.{both, says-write, good-pushed, good-popped}
-use Rattle.chip.specs.State.{HasArrays, fresh, controlWord, withPosition, goodWords, goodState}
+use Rattle.chip.specs.State.{HasArrays, fresh, controlWord, goodWords, goodState}
 use Rattle.chip.specs.Call.{Chip}
 use Rattle.chip.specs.Write.{put}
 use Rattle.chip.specs.Dot.{drains, oldestApplied, moved, afterDot}
@@ -167,15 +165,6 @@ module _ (chip : Chip) where
     pub dot-good : goodState (chip .0) ≡ true → goodState (afterDot chip .0) ≡ true
     unfolding afterDot
     dot-good good = chosen (λ (after : Chip). goodState (moved (after .0)) ≡ true) (drains (chip .0)) (moved-good (oldestApplied chip .0) (applied-good good)) (moved-good (chip .0) good)
-
--- a move, so many times over, keeps the rule
-pub placed-good : (state : State) (count word : ℕ) → goodState state ≡ true → goodState (withPosition state (positionAfter (state .at) count word)) ≡ true
-placed-good state count word good =
-    let said = good-says state good in
-    says-good (withPosition state (positionAfter (state .at) count word)) (said .0)
-    (omega (arith, after-x-lt (state .at) count word (omega (arith, said .1))))
-    (omega (arith, after-y-lt (state .at) count word (omega (arith, said .2))))
-    (said .3)
 
 -- so many dots leave as many words in the store
 pub dots-length : (count : ℕ) (chip : Chip) → length (afterDots count chip .1) ≡ length (chip .1)

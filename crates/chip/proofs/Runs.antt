@@ -1,28 +1,26 @@
 -- Runs of dots that only move the position, and what a dot and a run of dots come to. Assumes nothing.
-use Prim.Native.Nat.{ℕ, zero, suc, _+_, _-_, _≤_, _<_}
-use mathlib.Core.Path.{_≡_, refl, ap, sym, _∙_}
-use mathlib.Core.Bool.{Bool, true, false, cond, _&&_}
+use Prim.Native.Nat.{ℕ, zero, suc, _+_, _-_, _<_}
+use mathlib.Core.Path.{_≡_, refl, ap, _∙_}
+use mathlib.Core.Bool.{Bool, true, false, _&&_}
 use mathlib.Core.List.{List}
 use native.Mathlib.Omega.{arith}
-use borrow.Author.Tests.{ltb-true, le-ltb, eqb-true}
-use lib.Dec.{ltb, eqb}
+use borrow.Author.Tests.{ltb-true, le-ltb}
+use lib.Dec.{ltb}
 use lib.ListN.{length}
 use Rattle.rules.specs.Rule.{ok, refused}
 use Rattle.rules.specs.Faults.{Numbered}
-use Rattle.chip_timing.specs.Signals.{signalsAt}
 use Rattle.chip_timing.specs.Move.{positionAfter}
 use Rattle.chip_timing.specs.Walk.{walked}
 use Rattle.chip_timing.specs.declared.Position.{Position}
-use Rattle.chip_timing.proofs.Walked.{walk-stops, walk-runs, walk-left-le, walk-at}
-use Rattle.chip_registers.specs.Store.{storeLength}
+use Rattle.chip_timing.proofs.Walked.{walk-runs}
 use Rattle.chip_queue.proofs.Rule.{both}
-use Rattle.chip.specs.State.{controlWord, windowsOf, withPosition, goodState, HasArrays}
+use Rattle.chip.specs.State.{controlWord, windowsOf, withPosition}
 use Rattle.chip.specs.Call.{Chip, callFaults}
 use Rattle.chip.specs.Dot.{signalsOf, drains, oldestApplied, moved, afterDot, dotted}
 use Rattle.chip.specs.Dots.{afterDots, lastReport, ran}
 use Rattle.chip.specs.declared.state.State.{State}
 use Rattle.chip.specs.declared.report.Report.the-variants.{Nothing, Last}
-use Rattle.chip.proofs.Good.{dot-length, dot-whole, dot-good, placed-good, dots-add}
+use Rattle.chip.proofs.Good.{dots-add}
 use Rattle.chip.proofs.CallCheck.{tested, GoesOn, passes, stops}
 
 module _ (state : State) (store : List ℕ) where

@@ -1,12 +1,12 @@
 -- `chip::state::State::after` meets its contract: the writes that the dots apply, one after the other, and the position. Assumes nothing.
 use Prim.Native.Nat.{ℕ, _-_, _≤_}
-use mathlib.Core.Path.{_≡_, refl, ap, sym, _∙_}
+use mathlib.Core.Path.{_≡_, refl, ap, _∙_}
 use mathlib.Core.List.{List}
 use native.Mathlib.Numerals.{add-one}
 use native.Mathlib.Omega.{arith}
 use borrow.Author.Needs.{needs}
 use lib.ListN.{length, length-map, length-set}
-use Rattle.chip.specs.State.{HasArrays, goodState, withPosition}
+use Rattle.chip.specs.State.{goodState, withPosition}
 use Rattle.chip.specs.Call.{Chip}
 use Rattle.chip.specs.Dot.{oldestApplied}
 use Rattle.chip.specs.Inner.{appliedBy, behind}

@@ -1,11 +1,11 @@
 -- `chip::state::State::one_more` meets its contract: a write more where the dot drains the queue, and the next position. Assumes nothing.
+use Prim.Native.Nat.{ℕ, _-_}
 use mathlib.Core.Path.{_≡_, sym, _∙_}
 use mathlib.Core.Bool.{true, _&&_}
 use mathlib.Core.List.{List}
 use native.Mathlib.Omega.{arith}
 use borrow.Author.Needs.{needs}
 use lib.Dec.{ltb}
-use Prim.Native.Nat.{ℕ, _-_}
 use Rattle.chip.proofs.Passes.{more-wait, one-taken, none-taken}
 use Rattle.chip.proofs.state.State.one_more.Statement.{statement}
 use Rattle.chip.proofs.state.State.one_more.Tie as tie

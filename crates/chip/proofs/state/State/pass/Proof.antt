@@ -4,8 +4,6 @@ use mathlib.Core.Path.{_≡_, refl, ap, sym, _∙_}
 use mathlib.Core.List.{List}
 use native.Mathlib.Omega.{arith}
 use borrow.Author.Needs.{needs}
-use Rattle.chip.specs.Call.{Chip}
-use Rattle.chip.specs.Dot.{afterDot}
 use Rattle.chip.specs.Dots.{afterDots}
 use Rattle.chip.specs.Inner.{appliedBy, behind}
 use Rattle.chip.proofs.state.State.pass.Statement.{statement}

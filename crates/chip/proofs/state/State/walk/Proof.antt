@@ -1,10 +1,8 @@
 -- `chip::state::State::walk` meets its contract: the position's own walk where nothing waits any more, else the windows'. Assumes nothing.
 use mathlib.Core.Path.{sym, ap, subst, _∙_}
 use borrow.Author.Needs.{needs}
-use Rattle.chip_timing.specs.Move.{positionAfter}
 use Rattle.chip_timing.specs.Walk.{walked}
 use Rattle.chip_timing.specs.declared.Position.{Position}
-use Rattle.chip_timing.specs.declared.Walk.{Walk}
 use Rattle.chip_timing.specs.declared.Windows.{Windows}
 use Rattle.chip.specs.State.{controlWord}
 use Rattle.chip.specs.Inner.{WalksOn}
