@@ -1,10 +1,10 @@
 -- Runs of dots that only move the position, and what a dot and a run of dots come to. Assumes nothing.
-use Prim.Native.Nat.{ℕ, zero, suc, _+_, _-_, _<_}
+use Prim.Native.Nat.{ℕ, zero, suc, _+_, _-_}
 use mathlib.Core.Path.{_≡_, refl, ap, _∙_}
 use mathlib.Core.Bool.{Bool, true, false, _&&_}
 use mathlib.Core.List.{List}
 use native.Mathlib.Omega.{arith}
-use borrow.Author.Tests.{ltb-true, le-ltb}
+use borrow.Author.Tests.{le-ltb}
 use lib.Dec.{ltb}
 use lib.ListN.{length}
 use Rattle.rules.specs.Rule.{ok, refused}
@@ -13,7 +13,6 @@ use Rattle.chip_timing.specs.Move.{positionAfter}
 use Rattle.chip_timing.specs.Walk.{walked}
 use Rattle.chip_timing.specs.declared.Position.{Position}
 use Rattle.chip_timing.proofs.Walked.{walk-runs}
-use Rattle.chip_queue.proofs.Rule.{both}
 use Rattle.chip.specs.State.{controlWord, windowsOf, withPosition}
 use Rattle.chip.specs.Call.{Chip, callFaults}
 use Rattle.chip.specs.Dot.{signalsOf, drains, oldestApplied, moved, afterDot, dotted}
@@ -54,11 +53,6 @@ module _ (state : State) (store : List ℕ) where
 pub drains-by : (state : State) (blank test : Bool) → signalsOf state .blank ≡ blank → (blank && ltb 0 (state .queue .waiting)) ≡ test → drains state ≡ test
 unfolding drains
 drains-by state blank test e h = ap (λ (blank : Bool). blank && ltb 0 (state .queue .waiting)) e ∙ h
-
--- where a dot drains the queue, something waits
-pub drains-some : (state : State) → drains state ≡ true → 0 < state .queue .waiting
-unfolding drains
-drains-some state draining = ltb-true _ _ (both (signalsOf state .blank) (ltb 0 (state .queue .waiting)) draining .1)
 
 -- where nothing waits, dots move the position and change nothing else
 pub dots-none-wait : (count : ℕ) (state : State) (store : List ℕ) → state .queue .waiting ≡ 0

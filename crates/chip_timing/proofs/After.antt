@@ -1,5 +1,5 @@
--- So many moves at once: the position in closed form, its bounds, and moves after moves. Assumes nothing.
-use Prim.Native.Nat.{ℕ, zero, suc, min, _+_, _-_, _/_, _%_, _^_, _≤_, _<_}
+-- So many moves at once: the position in closed form, and moves after moves. Assumes nothing.
+use Prim.Native.Nat.{ℕ, zero, suc, min, _+_, _-_, _/_, _%_, _≤_, _<_}
 use mathlib.Core.Path.{_≡_, refl, sym, ap, _∙_}
 use native.Mathlib.Decide.{decLt}
 use native.Mathlib.Nat.{mod-eq-of-lt, mod-self, add-mod-right, add-div-right, div-eq-of-lt}
@@ -9,7 +9,7 @@ use borrow.Author.Tests.{le-leb, lt-leb}
 use Rattle.words.specs.Field.{field}
 use Rattle.chip_timing.specs.Move.{totalWidth, totalLines, onwards, nextPosition, positionAfter}
 use Rattle.chip_timing.specs.declared.Position.{Position}
-use Rattle.chip_timing.proofs.Move.{move-along, move-end, next-x-le, next-x-lt, next-y-lt}
+use Rattle.chip_timing.proofs.Move.{move-along, move-end, next-x-le}
 
 -- the line after so many ends of a line
 lineAfter : ℕ → ℕ → ℕ → ℕ
@@ -104,18 +104,6 @@ module _ (word : ℕ) where
         ≡ record { x = dotsTo at word count % totalWidth word; y = (min (at .y) (field word 27 16) + dotsTo at word count / totalWidth word) % totalLines word }
     unfolding dotsOn
     after-ends some = after-dots at count more ∙ rw (line-past (at .y) (field word 27 16) (dotsTo at word count / totalWidth word) some)
-
--- x keeps its 12 bits, whatever the moves
-pub after-x-lt : (at : Position) (count word : ℕ) → at .x < 2 ^ 12 → positionAfter at count word .x < 2 ^ 12
-unfolding positionAfter
-after-x-lt at zero word h = h
-after-x-lt at (suc count) word h = after-x-lt (nextPosition at word) count word (next-x-lt at word)
-
--- y keeps its 12 bits, whatever the moves
-pub after-y-lt : (at : Position) (count word : ℕ) → at .y < 2 ^ 12 → positionAfter at count word .y < 2 ^ 12
-unfolding positionAfter
-after-y-lt at zero word h = h
-after-y-lt at (suc count) word h = after-y-lt (nextPosition at word) count word (next-y-lt at word h)
 
 -- one move more, as the last
 pub after-next : (at : Position) (count word : ℕ) → positionAfter at (suc count) word ≡ nextPosition (positionAfter at count word) word

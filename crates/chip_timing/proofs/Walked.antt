@@ -105,11 +105,6 @@ module _ (ws : Windows) (at : Position) (word most : ℕ) where
   unfolding Came
   walk-left-le = came .0
 
-  -- the walk ends at the position after the moves that are not left
-  pub walk-at : walked ws at word most .at ≡ positionAfter at (most - walked ws at word most .left) word
-  unfolding Came
-  walk-at = came .1
-
   -- every position before the one where the walk ends is clear
   pub walk-clear : (i : ℕ) → i < most - walked ws at word most .left → signalsAt ws (positionAfter at i word) .blank ≡ false
   unfolding Came
