@@ -22,12 +22,20 @@ fn word_444(half: u32) -> u32
     17 * (half / 256 % 16 * 65536 + half / 4096 * 256 + half % 16)
 }
 
-// A channel of five bits, widened.
-fn widened_5(value: u32) -> u32
-    requires { ⌜ value < 32 ⌝ }
-    ensures { λ r. ⌜ r ≡ 8 * value + value / 4 ⌝ }
+// The channels in RGB 5-5-5 of two bytes, the first here the lowest: each where the lowest bits of its byte stand in a colour.
+fn spread_555(half: u32) -> u32
+    requires { ⌜ half < 65536 ⌝ }
+    ensures { λ r. ⌜ r ≡ half / 256 % 32 * 65536 + (half % 4 * 8 + half / 8192) * 256 + half / 4 % 32 ⌝ }
 {
-    8 * value + value / 4
+    half / 256 % 32 * 65536 + (half % 4 * 8 + half / 8192) * 256 + half / 4 % 32
+}
+
+// Three channels of five bits that stand so, all widened at once: the three top bits of each are repeated below it.
+fn widened_5(spread: u32) -> u32
+    requires { ⌜ spread < 2097152 ⌝ }
+    ensures { λ r. ⌜ r ≡ 8 * spread + (spread / 4 % 8 + spread / 1024 % 8 * 256 + spread / 262144 % 8 * 65536) ⌝ }
+{
+    8 * spread + (spread / 4 % 8 + spread / 1024 % 8 * 256 + spread / 262144 % 8 * 65536)
 }
 
 // The colour in RGB 5-5-5 of two bytes, the first here the lowest.
@@ -35,10 +43,7 @@ fn word_555(half: u32) -> u32
     requires { ⌜ half < 65536 ⌝ }
     ensures { λ r. ⌜ r ≡ wordOf (colourInFormat Format.Rgb555 (half % 256 * 256 + half / 256)) ⌝ }
 {
-    let red = widened_5(half / 256 % 32);
-    let green = widened_5(half % 4 * 8 + half / 8192);
-    let blue = widened_5(half / 4 % 32);
-    red * 65536 + green * 256 + blue
+    widened_5(spread_555(half))
 }
 
 // The colours in RGB 4-4-4 of two bytes each, which stand so many bytes apart.
