@@ -19,9 +19,7 @@ use Rattle.line_pixels.specs.Colour.{overlayCounts, colourOfPixel}
 use Rattle.line_pixels.specs.declared.Screen.{Screen}
 use Rattle.line_setup.specs.declared.controls.Controls.{Controls}
 use Rattle.line.specs.Cells.{Lent, lentOf}
-use Rattle.line.specs.Inner.{InRange, FitsScreen, RunAnswer, Entries, colourBy, colourAt, Enough}
-use Rattle.line.specs.declared.runs.Run.{Run}
-use Rattle.line.specs.declared.runs.RunAt.the-variants.{Is, Refused}
+use Rattle.line.specs.Inner.{InRange, FitsScreen, RunOf, NoRun, Entries, colourBy, colourAt, Enough}
 use Rattle.line.proofs.Pass.{Passing, pass-start, pass-run}
 
 -- the first of two switches that are both on
@@ -45,49 +43,49 @@ module _ (controls : Controls) (screen : Screen) (store table normal overlay : L
   draw-start output = record { passing = pass-start controls store table start; long = refl; list = refl }
 
   -- a pixel of a run has the colour that the run's entry gives it
-  run-colour : {x : ℕ} (found : Run) → RunAnswer controls store table start x (Is found) → (p : ℕ) → x ≤ p → p < found .end
-      → value (pixelView store normal overlay) (colourOfPixel screen (found .entry) p) ≡ colourAt controls screen lent start p
+  run-colour : {x end next : ℕ} (entry : WindowEntry) → RunOf controls store table start x entry end next → (p : ℕ) → x ≤ p → p < end
+      → value (pixelView store normal overlay) (colourOfPixel screen entry p) ≡ colourAt controls screen lent start p
   unfolding colourAt
-  run-colour found told p low high =
-      ap (λ (outcome : Outcome Numbered WindowEntry). colourBy (pixelView store normal overlay) screen p outcome) (sym (told .4 normal overlay p low high))
+  run-colour entry told p low high =
+      ap (λ (outcome : Outcome Numbered WindowEntry). colourBy (pixelView store normal overlay) screen p outcome) (sym (told .all-have normal overlay p low high))
 
-  module _ {before now : List ℕ} {x from : ℕ} (here : Drawing before now x from) (enough : Enough controls lent before) (found : Run)
-      (told : RunAnswer controls store table start x (Is found)) where
+  module _ {before now : List ℕ} {x from : ℕ} (here : Drawing before now x from) (enough : Enough controls lent before) (entry : WindowEntry) {end next : ℕ}
+      (told : RunOf controls store table start x entry end next) where
     -- one run on, which was lent the output from its first pixel on
     pub draw-run : (last : List ℕ)
-        → last ≡ filled (λ p. value (pixelView store normal overlay) (colourOfPixel screen (found .entry) p)) x (take (length now - x) (drop x now)) (found .end - x)
-        → Drawing before (putMid x (length now - x) now last) (found .end) (found .next)
+        → last ≡ filled (λ p. value (pixelView store normal overlay) (colourOfPixel screen entry p)) x (take (length now - x) (drop x now)) (end - x)
+        → Drawing before (putMid x (length now - x) now last) end next
     draw-run last run =
-        let list = fill-run (colourAt controls screen lent start) _ x (found .end) before now last (omega (arith, told .0)) (here .list) run (run-colour found told) in
+        let list = fill-run (colourAt controls screen lent start) _ x end before now last (omega (arith, told .some)) (here .list) run (run-colour entry told) in
         record {
           passing = pass-run controls store table start (here .passing) told;
-          long = ap length list ∙ filled-length (colourAt controls screen lent start) 0 before (found .end) (omega (arith, told .1, enough .output-long));
+          long = ap length list ∙ filled-length (colourAt controls screen lent start) 0 before end (omega (arith, told .within, enough .output-long));
           list = list;
         }
 
     -- there are pixels for it in the normal row
-    pub normal-reaches : InRange controls → FitsScreen controls screen → (x + (found .end - x)) * (screen .depth / 8) ≤ length normal
+    pub normal-reaches : InRange controls → FitsScreen controls screen → (x + (end - x)) * (screen .depth / 8) ≤ length normal
     normal-reaches sized fits =
-        let sum : x + (found .end - x) ≡ found .end = omega (arith, told .0) in
+        let sum : x + (end - x) ≡ end = omega (arith, told .some) in
         rw (sum, fits .same-depth, enough .normal-long)
         (⊎-elim
-        (λ (at : controls .depth ≡ 16). rw at (omega (arith, told .1)))
-        (λ (at : controls .depth ≡ 32). rw at (omega (arith, told .1)))
+        (λ (at : controls .depth ≡ 16). rw at (omega (arith, told .within)))
+        (λ (at : controls .depth ≡ 32). rw at (omega (arith, told .within)))
         (sized .at-depth))
 
     -- where overlay counts, there are bytes for it in the overlay row
-    pub overlay-reaches : FitsScreen controls screen → overlayCounts screen (found .entry) ≡ true → x + (found .end - x) ≤ length overlay
+    pub overlay-reaches : FitsScreen controls screen → overlayCounts screen entry ≡ true → x + (end - x) ≤ length overlay
     overlay-reaches fits counts =
-        let long = enough .overlay-long (sym (fits .same-overlay) ∙ first-on (screen .overlay) (found .entry .overlay) counts) in
-        omega (arith, told .0, told .1, long)
+        let long = enough .overlay-long (sym (fits .same-overlay) ∙ first-on (screen .overlay) (entry .overlay) counts) in
+        omega (arith, told .some, told .within, long)
 
     -- there is room for it in the output
-    pub output-reaches : found .end - x ≤ length (take (length now - x) (drop x now))
-    output-reaches = rw (tail-lent x now, length-drop) (omega (arith, told .1, enough .output-long, here .long))
+    pub output-reaches : end - x ≤ length (take (length now - x) (drop x now))
+    output-reaches = rw (tail-lent x now, length-drop) (omega (arith, told .within, enough .output-long, here .long))
 
-  -- where every pixel has a window entry no run is refused
+  -- where every pixel has a window entry no pixel lacks one
   pub none-refused : (refusal : Refusal) (x : ℕ) → Entries controls store table start → x < controls .width
-      → RunAnswer controls store table start x (Refused refusal) → ⊥
+      → NoRun controls store table start x refusal → ⊥
   none-refused refusal x entries inside told =
       let has = entries normal overlay x inside in
       let e = sym (has .1) ∙ told normal overlay in

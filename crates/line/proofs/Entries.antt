@@ -3,13 +3,16 @@ use Prim.Native.Nat.{ℕ, _+_, _%_, _^_, _≤_, _<_}
 use mathlib.Core.Path.{_≡_, refl, sym, ap, _∙_}
 use mathlib.Core.Bool.{true, false}
 use mathlib.Core.List.{List}
+use mathlib.Core.Logic.{⊎-elim}
 use native.Mathlib.Nat.{zero-add}
 use native.Mathlib.Omega.{arith}
 use lib.ListN.{length, getD}
 use Rattle.rules.specs.Rule.{Rule, Outcome, ok, refused, run}
 use Rattle.rules.specs.Faults.{Numbered}
+use Rattle.rules.proofs.Cases.{le-or-lt}
 use Rattle.rules.proofs.Then.{renamed, run-ok, run-refused, run-within}
 use Rattle.refusals.specs.Refusal.{numbered}
+use Rattle.refusals.specs.declared.Refusal.{Refusal}
 use Rattle.refusals.specs.declared.Refusal.the-variants.{UndefinedEntry}
 use Rattle.line_colour.specs.Entry.{decoded}
 use Rattle.line_colour.specs.declared.entry.WindowEntry.{WindowEntry}
@@ -31,8 +34,7 @@ use Rattle.line_windows.proofs.Pixels.{found-serves, refused-serves}
 use Rattle.line_setup.specs.declared.controls.Controls.{Controls}
 use Rattle.line.specs.Cells.{Lent, lentOf, view}
 use Rattle.line.specs.Line.{inTable, startOf, idAt, definedAt, windowEntryAt}
-use Rattle.line.specs.Inner.{PassedAt, Served, RunAnswer, StartAnswer}
-use Rattle.line.specs.declared.runs.RunAt.the-variants.{Is}
+use Rattle.line.specs.Inner.{PassedAt, Served, EndsRun, RunOf, NoRun, StartAnswer}
 
 -- refusals under their own names
 renamed-same : {R A : Type 0} (outcome : Outcome R A) → renamed (λ (refusal : R). refusal) outcome ≡ outcome
@@ -112,32 +114,39 @@ module _ (controls : Controls) (lent : Lent) (start x : ℕ) where
     entry-undefined e = by-decoded e
 
 -- what the look-up answered for pixel x, and the decoder for the window entry of its ID
-module _ (controls : Controls) (store table : List ℕ) (start x : ℕ) (found : FoundId) (entry : WindowEntry) (served : Served controls table start x (Id found))
-    (says : decoded (getD store (found .id) 0) (controls .depth) ≡ Defined entry) (inside : x < controls .width) where
-  -- each pixel up to the last has that entry
-  all-have : (normal overlay : List ℕ) (p : ℕ) → x ≤ p → p ≤ found .last
-      → run (view (lentOf store table normal overlay)) (windowEntryAt controls (length table) start p) ≡ ok entry
-  all-have normal overlay p low high =
-      entry-defined controls (lentOf store table normal overlay) start p (served .3 store normal overlay p low high) says
+module _ (controls : Controls) (store table : List ℕ) (start x : ℕ) (found : FoundId) (served : Served controls table start x (Id found)) where
+  -- an entry that is defined: the run that ends where the line entry does, or the line
+  pub run-of : (entry : WindowEntry) (end : ℕ) → decoded (getD store (found .id) 0) (controls .depth) ≡ Defined entry → x < controls .width
+      → EndsRun (controls .width) (found .last) end → RunOf controls store table start x entry end (found .next)
+  run-of entry end says inside ends =
+      let all-have : (normal overlay : List ℕ) (p : ℕ) → x ≤ p → p ≤ found .last
+      → run (view (lentOf store table normal overlay)) (windowEntryAt controls (length table) start p) ≡ ok entry =
+      λ normal overlay p low high. entry-defined controls (lentOf store table normal overlay) start p (served .3 store normal overlay p low high) says in
+      ⊎-elim
+      (λ (beyond : controls .width ≤ found .last).
+      let e = ends .1 beyond in record {
+        some = omega arith;
+        within = omega arith;
+        passed = λ more. absurd (omega arith);
+        said = (getD store (found .id) 0, says);
+        all-have = λ normal overlay p low high. all-have normal overlay p low (omega arith);
+      })
+      (λ (within : found .last < controls .width).
+      let e = ends .0 within in record {
+        some = omega (arith, served .1);
+        within = omega arith;
+        passed = λ more. rw e (served .2);
+        said = (getD store (found .id) 0, says);
+        all-have = λ normal overlay p low high. all-have normal overlay p low (omega arith);
+      })
+      (le-or-lt (controls .width) (found .last))
 
-  -- a run that ends within the line
-  pub run-within-line : found .last < controls .width
-      → RunAnswer controls store table start x (Is (record { entry = entry; end = found .last + 1; next = found .next }))
-  run-within-line within = (
-    omega (arith, served .1),
-    omega arith,
-    λ more. served .2,
-    (getD store (found .id) 0, says),
-    λ normal overlay p low high. all-have normal overlay p low (omega arith),
-  )
+  -- an undefined entry: 9
+  pub run-undefined : decoded (getD store (found .id) 0) (controls .depth) ≡ Undefined → NoRun controls store table start x (UndefinedEntry x)
+  run-undefined says normal overlay =
+      entry-undefined controls (lentOf store table normal overlay) start x (served .3 store normal overlay x (omega arith) (served .1)) says
 
-  -- a run to the end of the line
-  pub run-to-end : controls .width ≤ found .last
-      → RunAnswer controls store table start x (Is (record { entry = entry; end = controls .width; next = found .next }))
-  run-to-end beyond = (
-    inside,
-    omega arith,
-    λ more. absurd (omega arith),
-    (getD store (found .id) 0, says),
-    λ normal overlay p low high. all-have normal overlay p low (omega arith),
-  )
+-- no ID: that refusal
+pub run-no-id : (controls : Controls) (store table : List ℕ) (start x : ℕ) (refusal : Refusal) → Served controls table start x (NoId refusal) → NoRun controls store table start x refusal
+run-no-id controls store table start x refusal served normal overlay =
+    entry-no-id controls (lentOf store table normal overlay) start x (served store normal overlay)

@@ -21,9 +21,7 @@ use Rattle.line_windows.proofs.Pixels.{passed-start}
 use Rattle.line_setup.specs.declared.controls.Controls.{Controls}
 use Rattle.line.specs.Cells.{lentOf, view}
 use Rattle.line.specs.Line.{windowEntryAt}
-use Rattle.line.specs.Inner.{Over, PassedAt, RunAnswer, Entries}
-use Rattle.line.specs.declared.runs.Run.{Run}
-use Rattle.line.specs.declared.runs.RunAt.the-variants.{Is, Refused}
+use Rattle.line.specs.Inner.{Over, PassedAt, RunOf, NoRun, Entries}
 
 -- the entry of an outcome; any one where it was refused
 abbrev pub entryOf : Outcome Numbered WindowEntry → WindowEntry
@@ -55,16 +53,16 @@ module _ (controls : Controls) (store table : List ℕ) (start : ℕ) where
 
   module _ {x from : ℕ} (here : Passing x from) where
     -- one run on
-    pub pass-run : {found : Run} → RunAnswer controls store table start x (Is found) → Passing (found .end) (found .next)
-    pass-run {found} told = record {
-      in-range = told .1;
-      goes-on = told .2;
+    pub pass-run : {entry : WindowEntry} {end next : ℕ} → RunOf controls store table start x entry end next → Passing end next
+    pass-run {entry} told = record {
+      in-range = told .within;
+      goes-on = told .passed;
       had = λ normal overlay p before.
-          ⊎-elim (λ low. (found .entry, told .4 normal overlay p low before)) (λ high. here .had normal overlay p high) (le-or-lt x p);
+          ⊎-elim (λ low. (entry, told .all-have normal overlay p low before)) (λ high. here .had normal overlay p high) (le-or-lt x p);
     }
 
-    -- a run that is refused decides the line
-    pub pass-refused : (refusal : Refusal) → x < controls .width → RunAnswer controls store table start x (Refused refusal)
+    -- a pixel that has none decides the line
+    pub pass-refused : (refusal : Refusal) → x < controls .width → NoRun controls store table start x refusal
         → Over store table (λ memory. run memory (each (windowEntryAt controls (length table) start) (controls .width) 0) ≡ refused (numbered refusal))
     pass-refused refusal more told = λ normal overlay.
         let memory = view (lentOf store table normal overlay) in

@@ -11,6 +11,7 @@ use Rattle.rules.specs.Each.{each}
 use Rattle.rules.specs.Faults.{Numbered}
 use Rattle.rules.specs.Checked.{verdict}
 use Rattle.refusals.specs.Refusal.{numbered}
+use Rattle.refusals.specs.declared.Refusal.{Refusal}
 use Rattle.refusals.specs.declared.Answer.the-variants.{Done, Refused as Unfit}
 use Rattle.refusals.specs.declared.Answer.{Answer}
 use Rattle.line_colour.specs.declared.entry.WindowEntry.{WindowEntry}
@@ -31,8 +32,6 @@ use Rattle.line_setup.specs.declared.controls.Controls.{Controls}
 use Rattle.line_setup.specs.declared.setup.Setup.{Setup}
 use Rattle.line.specs.Cells.{Cell, Lent, lentOf, view}
 use Rattle.line.specs.Line.{startOf, idAt, windowEntryAt, lineRule}
-use Rattle.line.specs.declared.runs.RunAt.{RunAt}
-use Rattle.line.specs.declared.runs.RunAt.the-variants.{Is, Refused as NoRun}
 
 -- the ranges of width and depth
 pub record InRange (controls : Controls) : Type 0 where
@@ -62,15 +61,21 @@ Served controls table start x (Id found) =
 Served controls table start x (NoId refusal) =
     (store : List ℕ) → Over store table (λ memory. run memory (idAt controls (length table) start x) ≡ refused (numbered refusal))
 
--- the run that starts at pixel x: a window entry that all its pixels have, behind which the look-up may go on, or the pixel's refusal
-abbrev pub RunAnswer : Controls → List ℕ → List ℕ → ℕ → ℕ → RunAt → Type 0
-RunAnswer controls store table start x (Is found) =
-    (x < found .end)
-    × (found .end ≤ controls .width)
-    × (found .end < controls .width → PassedAt controls table start (found .next) (found .end))
-    × SaidAt (controls .depth) (found .entry)
-    × Over store table (λ memory. (p : ℕ) → x ≤ p → p < found .end → run memory (windowEntryAt controls (length table) start p) ≡ ok (found .entry))
-RunAnswer controls store table start x (NoRun refusal) =
+-- the pixel behind a run whose line entry serves pixels up to `last`, in a line of so many
+abbrev pub EndsRun : ℕ → ℕ → ℕ → Type 0
+EndsRun width last end = (last < width → end ≡ last + 1) × (width ≤ last → end ≡ width)
+
+-- from pixel x to before `end` all pixels have this window entry, and behind them the look-up may go on from line entry `next`
+pub record RunOf (controls : Controls) (store table : List ℕ) (start x : ℕ) (entry : WindowEntry) (end next : ℕ) : Type 0 where
+  pub some : x < end
+  pub within : end ≤ controls .width
+  pub passed : end < controls .width → PassedAt controls table start next end
+  pub said : SaidAt (controls .depth) entry
+  pub all-have : Over store table (λ memory. (p : ℕ) → x ≤ p → p < end → run memory (windowEntryAt controls (length table) start p) ≡ ok entry)
+
+-- pixel x has no defined window entry, for this reason
+abbrev pub NoRun : Controls → List ℕ → List ℕ → ℕ → ℕ → Refusal → Type 0
+NoRun controls store table start x refusal =
     Over store table (λ memory. run memory (windowEntryAt controls (length table) start x) ≡ refused (numbered refusal))
 
 -- every pixel has a defined window entry

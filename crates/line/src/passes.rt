@@ -4,11 +4,15 @@ ghost use lib.ListN.{length};
 ghost use Rattle.chip_registers.specs.Store.{storeLength};
 ghost use Rattle.line.specs.Cells.{lentOf};
 ghost use Rattle.line.specs.Inner.{InRange, FitsScreen, Entries, EntriesAnswer, Enough, coloured};
-use crate::runs::RunAt;
-use crate::runs::run_at;
+use crate::runs::entry_of;
+use crate::runs::id_at;
+use crate::runs::run_end;
+use line_colour::entry::Decoded;
 use line_pixels::Screen;
 use line_setup::controls::Controls;
+use line_windows::ids::LookedUp;
 use refusals::Answer;
+use refusals::Refusal;
 
 // The first pass: whether every pixel has a defined window entry.
 pub(crate) fn check_runs(controls: Controls, store: &[u32], table: &[u8], start: usize) -> Answer
@@ -18,12 +22,16 @@ pub(crate) fn check_runs(controls: Controls, store: &[u32], table: &[u8], start:
     let mut x = 0;
     let mut from = 0;
     while x < controls.width {
-        let run = run_at(controls, store, table, start, from, x);
-        match run {
-            RunAt::Refused(refusal) => return Answer::Refused(refusal),
-            RunAt::Is(run) => {
-                x = run.end;
-                from = run.next;
+        let looked = id_at(controls, table, start, from, x);
+        match looked {
+            LookedUp::Refused(refusal) => return Answer::Refused(refusal),
+            LookedUp::Id(found) => {
+                let says = entry_of(controls, store, found.id);
+                if let Decoded::Undefined = says {
+                    return Answer::Refused(Refusal::UndefinedEntry(x));
+                }
+                x = run_end(controls, found.last);
+                from = found.next;
             }
         }
     }
@@ -47,14 +55,19 @@ pub(crate) fn draw_runs(
     let mut x = 0;
     let mut from = 0;
     while x < controls.width {
-        let RunAt::Is(run) = run_at(controls, store, table, start, from, x) else {
-            // Not taken: the first pass found a run at every pixel.
+        let LookedUp::Id(found) = id_at(controls, table, start, from, x) else {
+            // Not taken: the first pass found an ID for every pixel.
             return;
         };
+        let Decoded::Defined(entry) = entry_of(controls, store, found.id) else {
+            // Not taken: the first pass found its window entry defined.
+            return;
+        };
+        let end = run_end(controls, found.last);
         let first = x as usize;
-        let count = (run.end - x) as usize;
+        let count = (end - x) as usize;
         screen.fill(
-            run.entry,
+            entry,
             store,
             normal,
             overlay,
@@ -62,7 +75,7 @@ pub(crate) fn draw_runs(
             count,
             &mut out[first..],
         );
-        x = run.end;
-        from = run.next;
+        x = end;
+        from = found.next;
     }
 }

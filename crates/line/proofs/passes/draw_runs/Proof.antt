@@ -1,18 +1,16 @@
 -- `line::passes::draw_runs` meets its contract: run by run, each into the output from its first pixel on. Assumes nothing.
 use Prim.Native.Nat.{_-_, _≤_}
-use mathlib.Core.Path.{_≡_, subst}
+use mathlib.Core.Path.{_≡_, sym, subst, _∙_}
 use native.Mathlib.Omega.{arith}
 use borrow.Author.Needs.{needs}
 use denote.Ref.{now}
 use lib.ListN.{length}
-use Rattle.line_pixels.proofs.Screen.fill.Reads as fill-reads
-use Rattle.line.specs.Inner.{RunAnswer}
-use Rattle.line.specs.declared.runs.RunAt.the-variants.{Is}
-use Rattle.line.specs.declared.runs.RunAt.{RunAt}
+use Rattle.refusals.specs.declared.Refusal.the-variants.{UndefinedEntry}
+use Rattle.line_windows.specs.declared.ids.LookedUp.the-variants.{Id}
+use Rattle.line_windows.specs.declared.ids.LookedUp.{LookedUp}
+use Rattle.line.specs.Inner.{Served, RunOf}
+use Rattle.line.proofs.Entries.{run-of, run-undefined, run-no-id}
 use Rattle.line.proofs.Drawing.{Drawing, draw-start, draw-run, normal-reaches, overlay-reaches, output-reaches, none-refused}
-use Rattle.line.proofs.passes.draw_runs.Reads as reads
-use Rattle.line.proofs.runs.run_at.Reads as run-at-reads
-use Rattle.line.proofs.passes.draw_runs.Lts as lts
 use Rattle.line.proofs.passes.draw_runs.Statement.{statement}
 use Rattle.line.proofs.passes.draw_runs.Tie as tie
 
@@ -24,38 +22,59 @@ Inv-loop controls screen store table start normal overlay out₀ x₀ from₀ ou
 abbrev μ-loop : tie.MeasureT-loop
 μ-loop controls screen store table start normal overlay out₀ x₀ from₀ out x from = controls .width - x
 
--- what was answered, where a run was found
-run-told :
-    (c : lts.After-known-told (run-at-reads.Asked, run-at-reads.Learnt, fill-reads.Asked, fill-reads.Learnt) reads.Pre reads.Post Inv-loop μ-loop) →
-    let loop = c .before .before .before .before .before .before in
-    let given = loop .before .before .before .before .before .before .args in
-    RunAnswer (given .controls) (now (given .store)) (now (given .table)) (given .start) (loop .loop .x) (Is (c .before .run .given .0 .0))
-run-told c =
-    let loop = c .before .before .before .before .before .before in
-    let given = loop .before .before .before .before .before .before .args in
-    subst (λ (answer : RunAt). RunAnswer (given .controls) (now (given .store)) (now (given .table)) (given .start) (loop .loop .x) answer) (c .before .run .given .1)
-    (c .before .before .before .run-at .ensures)
+-- where the pass started
+abbrev start-of : tie.At-loop Inv-loop μ-loop → tie.Start Inv-loop μ-loop
+start-of c = c .before .before .before .before .before .before
+
+-- the turn in which an ID was found
+abbrev loop-of : tie.After-known-told Inv-loop μ-loop → tie.At-loop Inv-loop μ-loop
+loop-of c = c .before .before .before .before .before .before
+
+-- what was answered, where an ID was found
+found-served : (c : tie.After-known-told Inv-loop μ-loop) →
+    let loop = loop-of c in
+    let given = start-of loop .args in
+    Served (given .controls) (now (given .table)) (given .start) (loop .loop .x) (Id (c .before .found .given .0 .0))
+found-served c =
+    let loop = loop-of c in
+    let given = start-of loop .args in
+    subst (λ (answer : LookedUp). Served (given .controls) (now (given .table)) (given .start) (loop .loop .x) answer) (c .before .found .given .1)
+    (c .before .before .before .id-at .ensures)
+
+-- where the ID of a run was found
+abbrev told-of : tie.After-run-end Inv-loop μ-loop → tie.After-known-told Inv-loop μ-loop
+told-of c = c .before .before .before .before .before
+
+-- the run of that ID
+run-found : (c : tie.After-run-end Inv-loop μ-loop) →
+    let told = told-of c in
+    let loop = loop-of told in
+    let given = start-of loop .args in
+    RunOf (given .controls) (now (given .store)) (now (given .table)) (given .start) (loop .loop .x) (c .before .before .entry .given .0 .0) (c .run-end .result) (told .before .found .given .0 .0 .next)
+run-found c =
+    let told = told-of c in
+    let loop = loop-of told in
+    let given = start-of loop .args in
+    run-of (given .controls) (now (given .store)) (now (given .table)) (given .start) (loop .loop .x) (told .before .found .given .0 .0) (found-served told)
+    (c .before .before .entry .given .0 .0) (c .run-end .result) (sym (c .before .before .before .before .entry-of .ensures) ∙ c .before .before .entry .given .1)
+    (told .before .before .before .before .if1 .taken) (c .run-end .ensures)
 
 -- the output reaches beyond the run's first pixel
-reaches :
-    (c : lts.After-struct-known2 (run-at-reads.Asked, run-at-reads.Learnt, fill-reads.Asked, fill-reads.Learnt) reads.Pre reads.Post Inv-loop μ-loop) →
-    let loop = c .before .before .before .before .before .before .before in
+reaches : (c : tie.After-run-end Inv-loop μ-loop) →
+    let loop = loop-of (told-of c) in
     loop .loop .x ≤ length (loop .loop .out)
 reaches c =
-    let loop = c .before .before .before .before .before .before .before in
-    let start = loop .before .before .before .before .before .before in
-    omega (arith, loop .loop .inv .passing .in-range, loop .loop .inv .long, start .pre .2 .output-long)
+    let loop = loop-of (told-of c) in
+    omega (arith, loop .loop .inv .passing .in-range, loop .loop .inv .long, start-of loop .pre .2 .output-long)
 
 loop-holds : tie.Need-loop-holds Inv-loop μ-loop
 loop-holds c = draw-start _ _ _ _ _ _ _ _
 
-run-at-requires : tie.Need-run-at-requires Inv-loop μ-loop
-run-at-requires c κs =
-    let start = c .before .before .before .before .before .before .before .before in
-    (c .before .before .loop .inv .passing .goes-on (c .if1 .taken), c .if1 .taken, start .pre .2 .store-long)
+id-at-requires : tie.Need-id-at-requires Inv-loop μ-loop
+id-at-requires c κs = (c .before .before .loop .inv .passing .goes-on (c .if1 .taken), c .if1 .taken)
 
-enum-known-run : tie.Need-enum-known-run Inv-loop μ-loop
-enum-known-run c = search needs
+enum-known-found : tie.Need-enum-known-found Inv-loop μ-loop
+enum-known-found c = search needs
 
 enum-told : tie.Need-enum-told Inv-loop μ-loop
 enum-told c = search needs
@@ -65,26 +84,54 @@ same-length c = c .before .before .before .before .before .loop .inv .long
 
 returns : tie.Need-returns Inv-loop μ-loop
 returns c =
-    let ran = c .before .before in
-    let start = ran .before .before .before .before .before .before .before .before .before in
+    let looked = c .before .before in
+    let loop = looked .before .before .before in
+    let start = start-of loop in
     let given = start .args in
     absurd
-    (none-refused (given .controls) (given .screen) (now (given .store)) (now (given .table)) (now (given .normal)) (now (given .overlay)) (given .start) (c .enum-told .given .0 .0) (ran .before .before .before .loop .x) (start .pre .3) (ran .before .if1 .taken)
-    (subst (λ (answer : RunAt). RunAnswer (given .controls) (now (given .store)) (now (given .table)) (given .start) (ran .before .before .before .loop .x) answer) (c .enum-told .given .1) (ran .run-at .ensures)))
+    (none-refused (given .controls) (given .screen) (now (given .store)) (now (given .table)) (now (given .normal)) (now (given .overlay)) (given .start) (c .enum-told .given .0 .0) (loop .loop .x) (start .pre .3) (looked .before .if1 .taken)
+    (run-no-id (given .controls) (now (given .store)) (now (given .table)) (given .start) (loop .loop .x) (c .enum-told .given .0 .0)
+    (subst (λ (answer : LookedUp). Served (given .controls) (now (given .table)) (given .start) (loop .loop .x) answer) (c .enum-told .given .1) (looked .id-at .ensures))))
+
+entry-of-requires : tie.Need-entry-of-requires Inv-loop μ-loop
+entry-of-requires c κs = (start-of (loop-of c) .pre .2 .store-long, found-served c .0)
+
+enum-known-entry : tie.Need-enum-known-entry Inv-loop μ-loop
+enum-known-entry c = search needs
+
+enum-told-2 : tie.Need-enum-told-2 Inv-loop μ-loop
+enum-told-2 c = search needs
+
+same-length-2 : tie.Need-same-length-2 Inv-loop μ-loop
+same-length-2 c = loop-of (c .before .before .before) .loop .inv .long
+
+returns-2 : tie.Need-returns-2 Inv-loop μ-loop
+returns-2 c =
+    let told = c .before .before .before in
+    let loop = loop-of told in
+    let start = start-of loop in
+    let given = start .args in
+    absurd
+    (none-refused (given .controls) (given .screen) (now (given .store)) (now (given .table)) (now (given .normal)) (now (given .overlay)) (given .start) (UndefinedEntry (loop .loop .x)) (loop .loop .x) (start .pre .3) (told .before .before .before .before .if1 .taken)
+    (run-undefined (given .controls) (now (given .store)) (now (given .table)) (given .start) (loop .loop .x) (told .before .found .given .0 .0) (found-served told)
+    (sym (c .before .before .entry-of .ensures) ∙ c .enum-told2 .given .1)))
+
+run-end-requires : tie.Need-run-end-requires Inv-loop μ-loop
+run-end-requires c κs = search needs
 
 cast-first : tie.Need-cast-first Inv-loop μ-loop
 cast-first c = search needs
 
 sub-count : tie.Need-sub-count Inv-loop μ-loop
-sub-count c = omega (arith, run-told (c .before) .0)
+sub-count c = omega (arith, run-found c .some)
 
 cast-count : tie.Need-cast-count Inv-loop μ-loop
 cast-count c = search needs
 
 mul-fill : tie.Need-mul-fill Inv-loop μ-loop
 mul-fill c =
-    let start = c .before .before .before .before .before .before .before .before .before .before .before .before .before in
-    omega (arith, start .pre .0 .width-le, c .before .before .before .before .before .before .before .loop .inv .passing .in-range)
+    let loop = loop-of (told-of c) in
+    omega (arith, start-of loop .pre .0 .width-le, loop .loop .inv .passing .in-range)
 
 sub-fill : tie.Need-sub-fill Inv-loop μ-loop
 sub-fill c = reaches c
@@ -97,44 +144,45 @@ part-fill-end c = omega arith
 
 fill-requires : tie.Need-fill-requires Inv-loop μ-loop
 fill-requires c κs =
-    let told = run-told (c .before .before) in
-    let loop = c .before .before .before .before .before .before .before .before in
-    let start = loop .before .before .before .before .before .before in
+    let run = run-found (c .before) in
+    let entry = c .before .before .before .entry .given .0 .0 in
+    let loop = loop-of (told-of (c .before)) in
+    let start = start-of loop in
     let given = start .args in (
       record {
         plain =
             record {
-              said = rw (start .pre .1 .same-depth) (told .3);
+              said = rw (start .pre .1 .same-depth) (run .said);
               store-long = start .pre .2 .store-long;
-              normal-long = normal-reaches (given .controls) (given .screen) (now (given .store)) (now (given .table)) (now (given .normal)) (now (given .overlay)) (given .start) (loop .loop .inv) (start .pre .2) (c .before .before .before .run .given .0 .0) told (start .pre .0) (start .pre .1);
+              normal-long = normal-reaches (given .controls) (given .screen) (now (given .store)) (now (given .table)) (now (given .normal)) (now (given .overlay)) (given .start) (loop .loop .inv) (start .pre .2) entry run (start .pre .0) (start .pre .1);
             };
-        overlay-long = overlay-reaches (given .controls) (given .screen) (now (given .store)) (now (given .table)) (now (given .normal)) (now (given .overlay)) (given .start) (loop .loop .inv) (start .pre .2) (c .before .before .before .run .given .0 .0) told (start .pre .1);
+        overlay-long = overlay-reaches (given .controls) (given .screen) (now (given .store)) (now (given .table)) (now (given .normal)) (now (given .overlay)) (given .start) (loop .loop .inv) (start .pre .2) entry run (start .pre .1);
       },
-      omega (arith, told .0, told .1, start .pre .0 .width-le),
-      output-reaches (given .controls) (given .screen) (now (given .store)) (now (given .table)) (now (given .normal)) (now (given .overlay)) (given .start) (loop .loop .inv) (start .pre .2) (c .before .before .before .run .given .0 .0) told,
+      omega (arith, run .some, run .within, start .pre .0 .width-le),
+      output-reaches (given .controls) (given .screen) (now (given .store)) (now (given .table)) (now (given .normal)) (now (given .overlay)) (given .start) (loop .loop .inv) (start .pre .2) entry run,
     )
 
 loop-less : tie.Need-loop-less Inv-loop μ-loop
 loop-less c =
-    let told = run-told (c .before .before .before .before .before) in
-    omega (arith, told .0, told .1)
+    let run = run-found (c .before .before .before .before) in
+    omega (arith, run .some, run .within)
 
 loop-again : tie.Need-loop-again Inv-loop μ-loop
 loop-again c =
     let drawn = c .before .before in
-    let told = run-told (drawn .before .before .before) in
-    let loop = drawn .before .before .before .before .before .before .before .before .before in
-    let start = loop .before .before .before .before .before .before in
+    let found = drawn .before .before in
+    let loop = loop-of (told-of found) in
+    let start = start-of loop in
     let given = start .args in
-    draw-run (given .controls) (given .screen) (now (given .store)) (now (given .table)) (now (given .normal)) (now (given .overlay)) (given .start) (loop .loop .inv) (start .pre .2) (drawn .before .before .before .before .run .given .0 .0) told _ (drawn .fill .ensures)
+    draw-run (given .controls) (given .screen) (now (given .store)) (now (given .table)) (now (given .normal)) (now (given .overlay)) (given .start) (loop .loop .inv) (start .pre .2) (found .before .before .entry .given .0 .0) (run-found found) _ (drawn .fill .ensures)
 
-same-length-2 : tie.Need-same-length-2 Inv-loop μ-loop
-same-length-2 c = c .before .before .loop .inv .long
+same-length-3 : tie.Need-same-length-3 Inv-loop μ-loop
+same-length-3 c = c .before .before .loop .inv .long
 
-returns-2 : tie.Need-returns-2 Inv-loop μ-loop
-returns-2 c =
+returns-3 : tie.Need-returns-3 Inv-loop μ-loop
+returns-3 c =
     let loop = c .before .before in
-    let e : loop .loop .x ≡ loop .before .before .before .before .before .before .args .controls .width = omega (arith, loop .loop .inv .passing .in-range) in
+    let e : loop .loop .x ≡ start-of loop .args .controls .width = omega (arith, loop .loop .inv .passing .in-range) in
     rw e at (loop .loop .inv .list)
 
 pub draw-runs-spec : {M : Type 1} → statement M
@@ -144,11 +192,17 @@ draw-runs-spec =
     Inv-loop
     μ-loop
     loop-holds
-    run-at-requires
-    enum-known-run
+    id-at-requires
+    enum-known-found
     enum-told
     same-length
     returns
+    entry-of-requires
+    enum-known-entry
+    enum-told-2
+    same-length-2
+    returns-2
+    run-end-requires
     cast-first
     sub-count
     cast-count
@@ -159,5 +213,5 @@ draw-runs-spec =
     fill-requires
     loop-less
     loop-again
-    same-length-2
-    returns-2)
+    same-length-3
+    returns-3)
