@@ -64,15 +64,12 @@ module _ (entry : WindowEntry) (used : ℕ) where
   pub shown-index12 : entry .format ≡ Index12 → shownOf entry used ≡ MapEntry (0 + bits used 0 (widthsOf (entry .format) .bits))
   shown-index12 format = rw (format, zero-add)
 
-  -- in RGB 4-4-4, 5-5-5 and 8-8-8 a sample shows a colour of its own
-  pub shown-rgb : (entry .format ≡ Rgb444) ⊎ (entry .format ≡ Rgb555) ⊎ (entry .format ≡ Rgb888) → shownOf entry used ≡ Colour (colourInFormat (entry .format) used)
+  -- in RGB a sample shows a colour of its own
+  pub shown-rgb : (entry .format ≡ Rgb332) ⊎ (entry .format ≡ Rgb444) ⊎ (entry .format ≡ Rgb555) ⊎ (entry .format ≡ Rgb888) → shownOf entry used ≡ Colour (colourInFormat (entry .format) used)
   shown-rgb (inl format) = rw format
   shown-rgb (inr (inl format)) = rw format
-  shown-rgb (inr (inr format)) = rw format
-
-  -- in RGB 3-3-2 too
-  pub shown-332 : entry .format ≡ Rgb332 → shownOf entry used ≡ Colour (colourInFormat Rgb332 used)
-  shown-332 format = rw format
+  shown-rgb (inr (inr (inl format))) = rw format
+  shown-rgb (inr (inr (inr format))) = rw format
 
 module _ (memory : PixelCell → ℕ) (screen : Screen) (entry : WindowEntry) (x : ℕ) where
   -- where overlay counts, a pixel's overlay byte is that of the row

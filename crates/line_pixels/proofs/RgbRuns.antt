@@ -1,4 +1,4 @@
--- Runs in RGB 4-4-4, 5-5-5 and 8-8-8: a colour's word in closed form, one pixel on in the loops, and why the colours of the bytes that hold the samples are the normal colours. Assumes nothing.
+-- Runs in RGB: a colour's word in closed form, one pixel on in the loops, and why the colours of the bytes that hold the samples are the normal colours. Assumes nothing.
 use Prim.Native.Nat.{ℕ, _+_, _*_, _/_, _%_, _^_, _≤_, _<_}
 use mathlib.Core.Path.{_≡_, sym, ap, _∙_}
 use mathlib.Core.Logic.{_⊎_}
@@ -86,7 +86,7 @@ colour-of-low Rgb444 word = low-channels word 12 4 4 4 (lit≤ tt)
 colour-of-low Rgb555 word = low-channels word 15 5 5 5 (lit≤ tt)
 colour-of-low Rgb888 word = low-channels word 24 8 8 8 (lit≤ tt)
 
-module _ {depth : ℕ} {entry : WindowEntry} (normal : List ℕ) {x n m first : ℕ} (held : HeldBy depth entry x n m first) (says : Says depth entry) (all : AllBytes normal) {format : Format} (is-format : entry .format ≡ format) (rgb : (entry .format ≡ Rgb444) ⊎ (entry .format ≡ Rgb555) ⊎ (entry .format ≡ Rgb888)) where
+module _ {depth : ℕ} {entry : WindowEntry} (normal : List ℕ) {x n m first : ℕ} (held : HeldBy depth entry x n m first) (says : Says depth entry) (all : AllBytes normal) {format : Format} (is-format : entry .format ≡ format) (rgb : (entry .format ≡ Rgb332) ⊎ (entry .format ≡ Rgb444) ⊎ (entry .format ≡ Rgb555) ⊎ (entry .format ≡ Rgb888)) where
   -- the colour of the bytes that hold a pixel's sample is the normal colour of the pixel
   pixel-normal : (store overlay : List ℕ) (i : ℕ)
       → wordOf (colourInFormat format (bigEndian normal (first + n * i) m)) ≡ value (pixelView store normal overlay) (normalAt depth entry (x + i))

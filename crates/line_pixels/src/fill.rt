@@ -17,7 +17,6 @@ use crate::looked_up::fill_looked_up;
 use crate::mapped::fill_mapped;
 use crate::overlay::lay_overlay;
 use crate::rgb::fill_rgb;
-use crate::rgb_332::fill_332;
 use crate::sampling::Sampling;
 use line_colour::entry::WindowEntry;
 use line_formats::Format;
@@ -48,7 +47,7 @@ fn fill_normal(
             fill_mapped(depth, sampling, 0, store, normal, x, count, out);
         }
         Format::Rgb332 => {
-            fill_332(depth, sampling, normal, x, count, out);
+            fill_rgb(depth, entry, normal, x, count, out);
         }
         Format::Rgb444 => {
             fill_rgb(depth, entry, normal, x, count, out);

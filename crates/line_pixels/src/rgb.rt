@@ -1,4 +1,4 @@
-// Runs in RGB 4-4-4, 5-5-5 and 8-8-8: each colour is worked out for its pixel, of its bytes as they are loaded, so that a turn of the loop does many pixels at once.
+// Runs in RGB: each colour is worked out for its pixel, in 4-4-4, 5-5-5 and 8-8-8 of its bytes as they are loaded, so that a turn of the loop does many pixels at once.
 ghost use Prim.Native.Nat.{ℕ, _+_, _*_, _/_, _%_, _≤_, _<_};
 ghost use mathlib.Core.Path.{_≡_};
 ghost use mathlib.Core.List.{List};
@@ -11,6 +11,7 @@ ghost use Rattle.line_formats.specs.Table.{colourInFormat};
 ghost use Rattle.line_pixels.specs.Inner.{RowLent, FilledNormal};
 use crate::bytes::le16;
 use crate::bytes::le32;
+use crate::rgb_332::run_332;
 use line_colour::entry::WindowEntry;
 use line_formats::Format;
 
@@ -82,7 +83,7 @@ fn run_888(normal: &[u8], first: usize, count: usize, out: &mut [u32])
     }
 }
 
-// A run in RGB 4-4-4, 5-5-5 or 8-8-8. How far pixels stand apart is said in each arm, since a loop does many at once only where that is fixed.
+// A run in RGB. How far pixels stand apart is said in each arm, since a loop does many at once only where that is fixed.
 pub(crate) fn fill_rgb(
     depth: u32,
     entry: WindowEntry,
@@ -91,12 +92,19 @@ pub(crate) fn fill_rgb(
     count: usize,
     out: &mut [u32],
 )
-    requires { ⌜ RowLent depth entry (now normal) (x + count) × ((entry .format ≡ Format.Rgb444) ⊎ (entry .format ≡ Format.Rgb555) ⊎ (entry .format ≡ Format.Rgb888)) × (count ≤ length (now out)) ⌝ }
+    requires { ⌜ RowLent depth entry (now normal) (x + count) × ((entry .format ≡ Format.Rgb332) ⊎ (entry .format ≡ Format.Rgb444) ⊎ (entry .format ≡ Format.Rgb555) ⊎ (entry .format ≡ Format.Rgb888)) × (count ≤ length (now out)) ⌝ }
     ensures { λ _. ⌜ ((store : List ℕ) → FilledNormal depth entry store (now (normal .entry)) x count (now (out .entry)) (now (out .exit))) ⌝ }
 {
     let format = entry.format;
     let high = (entry.low / 8) as usize;
     match format {
+        Format::Rgb332 => {
+            if depth == 32 {
+                run_332(4, normal, 4 * x + 3 - high, count, out);
+            } else {
+                run_332(2, normal, 2 * x + 1 - high, count, out);
+            }
+        }
         Format::Rgb444 => {
             if depth == 32 {
                 run_444(4, normal, 4 * x + 2 - high, count, out);
@@ -112,7 +120,7 @@ pub(crate) fn fill_rgb(
             }
         }
         // RGB 8-8-8 is all that is left.
-        Format::Rgb888 | Format::Index8 | Format::Index12 | Format::Rgb332 => {
+        Format::Rgb888 | Format::Index8 | Format::Index12 => {
             run_888(normal, 4 * x, count, out);
         }
     }

@@ -1,13 +1,12 @@
-// RGB 3-3-2: the colours of all 256 samples, and short runs.
-ghost use Prim.Native.Nat.{ℕ, _+_, _≤_, _<_};
+// RGB 3-3-2: the colours of all 256 samples, and runs that are too short for these.
+ghost use Prim.Native.Nat.{ℕ, _+_, _*_, _≤_, _<_};
 ghost use mathlib.Core.Path.{_≡_};
-ghost use mathlib.Core.List.{List};
 ghost use lib.ListN.{length, getD};
+ghost use Rattle.rules.specs.Lists.{filled};
+ghost use Rattle.words.specs.Bytes.{bigEndian};
 ghost use Rattle.words.specs.Channels.{wordOf};
 ghost use Rattle.line_formats.specs.Table.{colourInFormat};
-ghost use Rattle.line_pixels.specs.Sampling.{samplingOf};
-ghost use Rattle.line_pixels.specs.Inner.{RowLent, FilledNormal};
-use crate::sampling::Sampling;
+use crate::bytes::wide;
 use line_formats::Format;
 use line_formats::Rgb332;
 
@@ -23,21 +22,14 @@ pub(crate) fn colours_332(colours: &mut [u32; 256])
     }
 }
 
-// A run whose colours are worked out one by one.
-pub(crate) fn fill_332(
-    depth: u32,
-    sampling: Sampling,
-    normal: &[u8],
-    x: usize,
-    count: usize,
-    out: &mut [u32],
-)
-    requires { ⌜ RowLent depth (sampling .entry) (now normal) (x + count) × (sampling ≡ samplingOf (sampling .entry)) × (sampling .entry .format ≡ Format.Rgb332) × (count ≤ length (now out)) ⌝ }
-    ensures { λ _. ⌜ ((store : List ℕ) → FilledNormal depth (sampling .entry) store (now (normal .entry)) x count (now (out .entry)) (now (out .exit))) ⌝ }
+// The colours of samples that stand so many bytes apart, each worked out for its pixel.
+pub(crate) fn run_332(apart: usize, normal: &[u8], first: usize, count: usize, out: &mut [u32])
+    requires { ⌜ ((i : ℕ) → i < count → first + apart * i + 1 ≤ length (now normal)) × (count ≤ length (now out)) ⌝ }
+    ensures { λ _. ⌜ now (out .exit) ≡ filled (λ i. wordOf (colourInFormat Format.Rgb332 (bigEndian (now (normal .entry)) (first + apart * i) 1))) 0 (now (out .entry)) count ⌝ }
 {
     let mut i = 0;
     while i < count {
-        out[i] = Rgb332::colour(sampling.sample_at(depth, normal, x + i)).word();
+        out[i] = Rgb332::colour(wide(normal[first + apart * i])).word();
         i += 1;
     }
 }

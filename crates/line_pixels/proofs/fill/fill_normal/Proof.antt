@@ -1,20 +1,12 @@
 -- `line_pixels::fill::fill_normal` meets its contract: by the loop of its format. Assumes nothing.
 use Prim.Native.Nat.{ℕ}
-use mathlib.Core.Path.{_≡_, refl, ap}
+use mathlib.Core.Path.{refl}
 use mathlib.Core.Logic.{inl, inr}
 use mathlib.Core.List.{List}
 use borrow.Author.Needs.{needs}
-use Rattle.line_colour.specs.declared.entry.WindowEntry.{WindowEntry}
-use Rattle.line_pixels.specs.Inner.{FilledNormal}
-use Rattle.line_pixels.specs.declared.sampling.Sampling.{Sampling}
 use Rattle.line_pixels.proofs.LayersCases.{shown-index8, shown-index12}
 use Rattle.line_pixels.proofs.fill.fill_normal.Statement.{statement}
 use Rattle.line_pixels.proofs.fill.fill_normal.Tie as tie
-
--- what is filled under an entry is filled under an equal one
-same-entry : (depth : ℕ) (store normal : List ℕ) (x count : ℕ) (before after : List ℕ) {entry entry′ : WindowEntry} → entry ≡ entry′
-    → FilledNormal depth entry store normal x count before after → FilledNormal depth entry′ store normal x count before after
-same-entry depth store normal x count before after same filling = rw same at filling
 
 -- the store that is lent
 abbrev store-of : tie.After-of → List ℕ
@@ -48,34 +40,34 @@ fill-mapped-requires-2 c κs =
 enum-told-3 : tie.Need-enum-told-3
 enum-told-3 c = search needs
 
-fill-332-requires : tie.Need-fill-332-requires
-fill-332-requires c κs =
+fill-rgb-requires : tie.Need-fill-rgb-requires
+fill-rgb-requires c κs =
     let start = c .before .before .before .before .before .before .before in
-    rw (c .before .before .before .of .ensures) ((start .pre .0 .said, start .pre .0 .normal-long), refl, c .before .enum-told3 .given .1, start .pre .1)
+    ((start .pre .0 .said, start .pre .0 .normal-long), inl (c .before .enum-told3 .given .1), start .pre .1)
 
 enum-told-4 : tie.Need-enum-told-4
 enum-told-4 c = search needs
 
-fill-rgb-requires : tie.Need-fill-rgb-requires
-fill-rgb-requires c κs =
+fill-rgb-requires-2 : tie.Need-fill-rgb-requires-2
+fill-rgb-requires-2 c κs =
     let start = c .before .before .before .before .before .before .before in
-    ((start .pre .0 .said, start .pre .0 .normal-long), inl (c .before .enum-told4 .given .1), start .pre .1)
+    ((start .pre .0 .said, start .pre .0 .normal-long), inr (inl (c .before .enum-told4 .given .1)), start .pre .1)
 
 enum-told-5 : tie.Need-enum-told-5
 enum-told-5 c = search needs
 
-fill-rgb-requires-2 : tie.Need-fill-rgb-requires-2
-fill-rgb-requires-2 c κs =
+fill-rgb-requires-3 : tie.Need-fill-rgb-requires-3
+fill-rgb-requires-3 c κs =
     let start = c .before .before .before .before .before .before .before in
-    ((start .pre .0 .said, start .pre .0 .normal-long), inr (inl (c .before .enum-told5 .given .1)), start .pre .1)
+    ((start .pre .0 .said, start .pre .0 .normal-long), inr (inr (inl (c .before .enum-told5 .given .1))), start .pre .1)
 
 enum-told-6 : tie.Need-enum-told-6
 enum-told-6 c = search needs
 
-fill-rgb-requires-3 : tie.Need-fill-rgb-requires-3
-fill-rgb-requires-3 c κs =
+fill-rgb-requires-4 : tie.Need-fill-rgb-requires-4
+fill-rgb-requires-4 c κs =
     let start = c .before .before .before .before .before .before .before in
-    ((start .pre .0 .said, start .pre .0 .normal-long), inr (inr (c .before .enum-told6 .given .1)), start .pre .1)
+    ((start .pre .0 .said, start .pre .0 .normal-long), inr (inr (inr (c .before .enum-told6 .given .1))), start .pre .1)
 
 same-length : tie.Need-same-length
 same-length c = search needs
@@ -93,29 +85,25 @@ same-length-3 : tie.Need-same-length-3
 same-length-3 c = search needs
 
 returns-3 : tie.Need-returns-3
-returns-3 c =
-    let of = c .before .before .before .before .before .before in
-    let a = of .before .before .before .before .args in
-    same-entry (a .depth) (a .store .now) (a .normal .now) (a .x) (a .count) (a .out .now) _ (ap (λ (s : Sampling). s .entry) (of .of .ensures))
-    (c .before .before .fill-332 .ensures (a .store .now))
+returns-3 c = c .before .before .fill-rgb .ensures (store-of (c .before .before .before .before .before .before))
 
 same-length-4 : tie.Need-same-length-4
 same-length-4 c = search needs
 
 returns-4 : tie.Need-returns-4
-returns-4 c = c .before .before .fill-rgb .ensures (store-of (c .before .before .before .before .before .before))
+returns-4 c = c .before .before .fill-rgb2 .ensures (store-of (c .before .before .before .before .before .before))
 
 same-length-5 : tie.Need-same-length-5
 same-length-5 c = search needs
 
 returns-5 : tie.Need-returns-5
-returns-5 c = c .before .before .fill-rgb2 .ensures (store-of (c .before .before .before .before .before .before))
+returns-5 c = c .before .before .fill-rgb3 .ensures (store-of (c .before .before .before .before .before .before))
 
 same-length-6 : tie.Need-same-length-6
 same-length-6 c = search needs
 
 returns-6 : tie.Need-returns-6
-returns-6 c = c .before .before .fill-rgb3 .ensures (store-of (c .before .before .before .before .before .before))
+returns-6 c = c .before .before .fill-rgb4 .ensures (store-of (c .before .before .before .before .before .before))
 
 pub fill-normal-spec : {M : Type 1} → statement M
 fill-normal-spec =
@@ -128,13 +116,13 @@ fill-normal-spec =
     enum-told-2
     fill-mapped-requires-2
     enum-told-3
-    fill-332-requires
-    enum-told-4
     fill-rgb-requires
-    enum-told-5
+    enum-told-4
     fill-rgb-requires-2
-    enum-told-6
+    enum-told-5
     fill-rgb-requires-3
+    enum-told-6
+    fill-rgb-requires-4
     same-length
     returns
     same-length-2

@@ -8,15 +8,18 @@ use borrow.Author.Needs.{needs}
 use lib.Dec.{lit<}
 use Rattle.rules.specs.Rule.{value}
 use Rattle.words.specs.Field.{bits}
-use Rattle.line_formats.specs.declared.Format.the-variants.{Index8}
+use Rattle.line_formats.specs.Table.{colourInFormat}
+use Rattle.line_formats.specs.declared.Format.{Format}
+use Rattle.line_formats.specs.declared.Format.the-variants.{Index8, Rgb332}
 use Rattle.line_colour.specs.Shown.{shownOf}
 use Rattle.line_colour.specs.declared.entry.Shown.{Shown}
-use Rattle.line_colour.specs.declared.entry.Shown.the-variants.{MapEntry}
+use Rattle.line_colour.specs.declared.entry.Shown.the-variants.{MapEntry, Colour}
+use Rattle.line_colour.specs.declared.entry.WindowEntry.{WindowEntry}
 use Rattle.line_colour.proofs.Defined.{map-entry-below}
 use Rattle.line_pixels.specs.Cells.{PixelCell, pixelView}
 use Rattle.line_pixels.specs.Colour.{shownColour}
 use Rattle.line_pixels.proofs.Rows.{said-says}
-use Rattle.line_pixels.proofs.LayersCases.{shown-index8, shown-332}
+use Rattle.line_pixels.proofs.LayersCases.{shown-index8, shown-rgb}
 use Rattle.line_pixels.proofs.looked_up.normal_colours.Statement.{statement}
 use Rattle.line_pixels.proofs.looked_up.normal_colours.Tie as tie
 
@@ -45,6 +48,10 @@ in-map : (c : tie.After-map-entry) → c .map-entry .result + 256 ≤ 4608
 in-map c =
     let start = c .before .before .before in
     omega (arith, map-entry-below (start .args .depth) (start .args .entry) 255 (said-says (start .args .depth) (start .args .entry) (start .pre .0)) (shows c 255 (lit< tt)))
+
+-- in RGB 3-3-2 a sample shows a colour of its own
+shown-332 : (entry : WindowEntry) (sample : ℕ) → entry .format ≡ Rgb332 → shownOf entry sample ≡ Colour (colourInFormat Rgb332 sample)
+shown-332 entry sample is = shown-rgb entry sample (inl is) ∙ ap (λ (format : Format). Colour (colourInFormat format sample)) is
 
 -- the colour of what a sample shows
 of-shown : (memory : PixelCell → ℕ) {word : ℕ} {shown shown′ : Shown} → word ≡ value memory (shownColour shown) → shown′ ≡ shown → word ≡ value memory (shownColour shown′)
