@@ -86,6 +86,17 @@ module _ {depth : ℕ} {entry : WindowEntry} (x : ℕ) (says : Says depth entry)
       let low : entry .low ≡ 0 = ⊎-elim (λ zero. zero) (λ half. omega arith) (says .low-is) in
       record { bytes = omega arith; starts = omega arith; holds = fits; within = omega arith }
 
+  -- at either depth a sample that fits two bytes and no less is held by two
+  pub held-by-pair : 8 < widthsOf (entry .format) .bits → widthsOf (entry .format) .bits ≤ 16
+      → HeldBy depth entry x (depth / 8) 2 (depth / 8 * x + (depth / 8 - 2) - entry .low / 8)
+  held-by-pair above fits =
+      let within : entry .low + 16 ≤ depth =
+      ⊎-elim
+      (λ at. ⊎-elim (λ zero. omega arith) (λ half. omega (arith, says .within)) (says .low-is))
+      (λ at. ⊎-elim (λ zero. omega arith) (λ half. omega arith) (says .low-is))
+      (says .at-depth) in
+      record { bytes = refl; starts = refl; holds = fits; within = within }
+
   -- at depth 32 one that fits no half is held by all four
   pub held-by-four : 16 < widthsOf (entry .format) .bits → depth ≡ 32 → HeldBy depth entry x 4 4 (4 * x)
   held-by-four above is =

@@ -1,4 +1,4 @@
--- Runs in RGB: a colour's word in closed form, one pixel on in the loops, and why the colours of the bytes that hold the samples are the normal colours. Assumes nothing.
+-- Runs in RGB: the channels in two bytes, a colour's word in closed form, one pixel on in the loops, and why the colours of the bytes that hold the samples are the normal colours. Assumes nothing.
 use Prim.Native.Nat.{ℕ, _+_, _*_, _/_, _%_, _^_, _≤_, _<_}
 use mathlib.Core.Path.{_≡_, sym, ap, _∙_}
 use mathlib.Core.Logic.{_⊎_}
@@ -28,6 +28,31 @@ use Rattle.line_pixels.specs.Colour.{normalAt}
 use Rattle.line_pixels.specs.Inner.{FilledNormal}
 use Rattle.line_pixels.proofs.Halves.{AllBytes, HeldBy, sample-in-bytes}
 use Rattle.line_pixels.proofs.LayersCases.{normal-of-colour, shown-rgb}
+
+module _ (low high : ℕ) (below : high < 256) where
+  -- in 4-4-4 red is the low half of the second byte
+  pub red-444 : bits (low * 256 + high) 0 4 ≡ high % 16
+  red-444 = omega arith
+
+  -- green is its high half
+  pub green-444 : bits (low * 256 + high) 4 4 ≡ high / 16
+  green-444 = omega arith
+
+  -- blue is the low half of the first byte
+  pub blue-444 : bits (low * 256 + high) 8 4 ≡ low % 16
+  blue-444 = omega arith
+
+  -- in 5-5-5 red is the low bits of the second byte
+  pub red-555 : bits (low * 256 + high) 0 5 ≡ high % 32
+  red-555 = omega arith
+
+  -- green stands in both
+  pub green-555 : bits (low * 256 + high) 5 5 ≡ low % 4 * 8 + high / 32
+  green-555 = omega arith
+
+  -- blue stands in the first byte
+  pub blue-555 : bits (low * 256 + high) 10 5 ≡ low / 4 % 32
+  blue-555 = omega arith
 
 module _ (width : ℕ) (closed : ℕ → ℕ) (is : (v : ℕ) → v < 2 ^ width → widened v width ≡ closed v) where
   -- a channel of this width is its bits, widened in closed form
@@ -88,7 +113,7 @@ colour-of-low Rgb888 word = low-channels word 24 8 8 8 (lit≤ tt)
 
 module _ {depth : ℕ} {entry : WindowEntry} (normal : List ℕ) {x n m first : ℕ} (held : HeldBy depth entry x n m first) (says : Says depth entry) (all : AllBytes normal) {format : Format} (is-format : entry .format ≡ format) (rgb : (entry .format ≡ Rgb332) ⊎ (entry .format ≡ Rgb444) ⊎ (entry .format ≡ Rgb555) ⊎ (entry .format ≡ Rgb888)) where
   -- the colour of the bytes that hold a pixel's sample is the normal colour of the pixel
-  pixel-normal : (store overlay : List ℕ) (i : ℕ)
+  pub pixel-normal : (store overlay : List ℕ) (i : ℕ)
       → wordOf (colourInFormat format (bigEndian normal (first + n * i) m)) ≡ value (pixelView store normal overlay) (normalAt depth entry (x + i))
   pixel-normal store overlay i =
       let bytes = bigEndian normal (first + n * i) m in

@@ -106,6 +106,31 @@ TablesFit red green blue = (k : ℕ) → k < 256 → (getD red k 0 ≤ 255 * 655
 abbrev pub byTables : List ℕ → List ℕ → List ℕ → ℕ → ℕ
 byTables red green blue word = getD red (word / 65536 % 256) 0 + getD green (word / 256 % 256) 0 + getD blue (word % 256) 0
 
+-- two tables have the final words of a format whose channels all have so many values: that of red and green together stands behind those of the smaller greens, and a value picks the gamma word of so many quarters of it
+pub record PairedBy (store : List ℕ) (values quarters : ℕ) (pairs blues : List ℕ) : Type 0 where
+  pub pairs-long : length pairs ≡ values * values
+  pub blues-long : length blues ≡ values
+  pub in-pairs : (k : ℕ) → k < values * values → getD pairs k 0 ≡ gammaRed store (quarters * (k % values) / 4) + gammaGreen store (quarters * (k / values) / 4)
+  pub in-blues : (v : ℕ) → v < values → getD blues v 0 ≡ gammaBlue store (quarters * v / 4)
+
+-- two such tables are as long as they must be, and no word of theirs is more than its channels, where they stand in a colour
+pub record PairsFit (values : ℕ) (pairs blues : List ℕ) : Type 0 where
+  pub pairs-long : length pairs ≡ values * values
+  pub blues-long : length blues ≡ values
+  pub pairs-fit : (k : ℕ) → k < values * values → getD pairs k 0 ≤ 255 * 65536 + 255 * 256
+  pub blues-fit : (v : ℕ) → v < values → getD blues v 0 ≤ 255
+
+-- how many values a channel has, of five bits or of four
+abbrev pub valuesOf : Bool → ℕ
+valuesOf fives = cond fives 32 16
+
+-- the colour of two bytes by two such tables, in RGB 5-5-5 or 4-4-4
+abbrev pub pairedAt : Bool → List ℕ → List ℕ → List ℕ → ℕ → ℕ
+pairedAt fives pairs blues bytes at =
+    cond fives
+    (getD pairs (getD bytes at 0 % 4 * 256 + getD bytes (at + 1) 0) 0 + getD blues (getD bytes at 0 / 4 % 32) 0)
+    (getD pairs (getD bytes (at + 1) 0) 0 + getD blues (getD bytes at 0 % 16) 0)
+
 -- the colour of an overlay byte, or what is under it where the byte is 0
 unfoldable pub overlaidOr : WindowEntry → ℕ → ℕ → Rule ⊥ PixelCell ℕ
 overlaidOr entry byte under = cond (eqb byte 0) (done under) (overlaid entry byte)

@@ -13,9 +13,12 @@ use crate::Screen;
 use crate::correction::correct;
 use crate::lengths::LAYERED_RUN;
 use crate::lengths::LOOKED_UP_RUN;
+use crate::lengths::PAIRED_RUN;
 use crate::looked_up::fill_looked_up;
 use crate::mapped::fill_mapped;
 use crate::overlay::lay_overlay;
+use crate::paired::fill_paired;
+use crate::paired::is_paired;
 use crate::rgb::fill_rgb;
 use crate::sampling::Sampling;
 use line_colour::entry::WindowEntry;
@@ -92,6 +95,12 @@ fn fill_plain(
     if LOOKED_UP_RUN <= count {
         if samples_of_8(format) {
             fill_looked_up(depth, entry, store, normal, x, count, out);
+            return;
+        }
+    }
+    if PAIRED_RUN <= count {
+        if is_paired(entry) {
+            fill_paired(depth, entry, store, normal, x, count, out);
             return;
         }
     }

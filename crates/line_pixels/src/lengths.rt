@@ -9,5 +9,8 @@ pub(crate) const LOOKED_UP_RUN: usize = 192;
 // The shortest run for which the colours of all overlay bytes are made first.
 pub(crate) const OVERLAY_RUN: usize = 256;
 
+// The shortest run in RGB 4-4-4 or 5-5-5 through gamma for which the final words of red and green together are made first.
+pub(crate) const PAIRED_RUN: usize = 128;
+
 // The fewest words for which the gamma map is split into its channels first.
 pub(crate) const SPLIT_WORDS: usize = 128;

@@ -9,6 +9,7 @@ mod lengths;
 mod looked_up;
 mod mapped;
 mod overlay;
+mod paired;
 mod rgb;
 mod rgb_332;
 mod sampling;

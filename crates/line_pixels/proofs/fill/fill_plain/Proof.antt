@@ -1,4 +1,4 @@
--- `line_pixels::fill::fill_plain` meets its contract: colours looked up in a long run of 8-bit samples, else the normal colours through gamma. Assumes nothing.
+-- `line_pixels::fill::fill_plain` meets its contract: colours looked up in a long run of 8-bit samples or of pairs, else the normal colours through gamma. Assumes nothing.
 use Prim.Native.Nat.{ℕ}
 use mathlib.Core.Path.{refl, _∙_}
 use borrow.Author.Needs.{needs}
@@ -25,20 +25,36 @@ same-length c = search needs
 returns : tie.Need-returns
 returns c = search needs
 
+is-paired-requires : tie.Need-is-paired-requires
+is-paired-requires c κs = search needs
+
+fill-paired-requires : tie.Need-fill-paired-requires
+fill-paired-requires c κs =
+    let told = c .before .before in
+    let start = told .before .before .before .before .before .before in
+    let both = told .is-paired .ensures (c .before .if4 .taken) in
+    (start .pre .0, both .0, both .1, start .pre .1)
+
+same-length-2 : tie.Need-same-length-2
+same-length-2 c = search needs
+
+returns-2 : tie.Need-returns-2
+returns-2 c = search needs
+
 fill-normal-requires : tie.Need-fill-normal-requires
 fill-normal-requires c κs = search needs
 
 correct-requires : tie.Need-correct-requires
 correct-requires c κs = search needs
 
-same-length-2 : tie.Need-same-length-2
-same-length-2 c = search needs
+same-length-3 : tie.Need-same-length-3
+same-length-3 c = search needs
 
-returns-2 : tie.Need-returns-2
-returns-2 c =
+returns-3 : tie.Need-returns-3
+returns-3 c =
     let corrected = c .before .before in
     let filled = corrected .before .before .before .before in
-    let a = filled .before .before .before .before .before .before .args in
+    let a = filled .before .before .before .before .before .before .before .args in
     λ overlay.
     let memory = pixelView (a .store .now) (a .normal .now) overlay in
     changed-run (λ _ word. value memory (throughGamma (a .entry .bypass) word)) (λ p. value memory (normalAt (a .depth) (a .entry) p))
@@ -56,7 +72,11 @@ fill-plain-spec =
     fill-looked-up-requires
     same-length
     returns
+    is-paired-requires
+    fill-paired-requires
+    same-length-2
+    returns-2
     fill-normal-requires
     correct-requires
-    same-length-2
-    returns-2)
+    same-length-3
+    returns-3)

@@ -3,24 +3,10 @@ use Prim.Native.Nat.{ℕ, _+_, _*_, _/_, _%_, _^_, _<_}
 use mathlib.Core.Path.{_≡_, sym, _∙_}
 use native.Mathlib.Omega.{arith}
 use borrow.Author.Needs.{needs}
-use Rattle.words.specs.Field.{bits}
 use Rattle.line_formats.proofs.Widening.{widened-4}
-use Rattle.line_pixels.proofs.RgbRuns.{word-by}
+use Rattle.line_pixels.proofs.RgbRuns.{red-444, green-444, blue-444, word-by}
 use Rattle.line_pixels.proofs.rgb.word_444.Statement.{statement}
 use Rattle.line_pixels.proofs.rgb.word_444.Tie as tie
-
-module _ (low high : ℕ) (below : high < 256) where
-  -- red is the low half of the second byte
-  red : bits (low * 256 + high) 0 4 ≡ high % 16
-  red = omega arith
-
-  -- green is its high half
-  green : bits (low * 256 + high) 4 4 ≡ high / 16
-  green = omega arith
-
-  -- blue is the low half of the first byte
-  blue : bits (low * 256 + high) 8 4 ≡ low % 16
-  blue = omega arith
 
 -- three channels, each widened, are the three together, widened
 together : (r g b : ℕ) → 17 * r * 2 ^ 16 + 17 * g * 2 ^ 8 + 17 * b ≡ 17 * (r * 65536 + g * 256 + b)
@@ -51,7 +37,7 @@ returns c =
     let blue-here : low % 16 ≡ half % 16 = omega arith in
     sym
     (word-by 4 (λ (v : ℕ). 17 * v) widened-4 (low * 256 + high)
-    ∙ rw (red low high below, green low high below, blue low high below, green-here, blue-here) (together (high % 16) (half / 4096) (half % 16)))
+    ∙ rw (red-444 low high below, green-444 low high below, blue-444 low high below, green-here, blue-here) (together (high % 16) (half / 4096) (half % 16)))
 
 pub word-444-spec : {M : Type 1} → statement M
 word-444-spec = tie.close (tie.spec mul-result mul-result-2 add-result add-result-2 mul-result-3 returns)

@@ -3,24 +3,10 @@ use Prim.Native.Nat.{ℕ, _+_, _*_, _/_, _%_, _<_}
 use mathlib.Core.Path.{_≡_, sym, _∙_}
 use native.Mathlib.Omega.{arith}
 use borrow.Author.Needs.{needs}
-use Rattle.words.specs.Field.{bits}
 use Rattle.line_formats.proofs.Widening.{widened-5}
-use Rattle.line_pixels.proofs.RgbRuns.{word-by}
+use Rattle.line_pixels.proofs.RgbRuns.{red-555, green-555, blue-555, word-by}
 use Rattle.line_pixels.proofs.rgb.word_555.Statement.{statement}
 use Rattle.line_pixels.proofs.rgb.word_555.Tie as tie
-
-module _ (low high : ℕ) (below : high < 256) where
-  -- red is the low bits of the second byte
-  red-of : bits (low * 256 + high) 0 5 ≡ high % 32
-  red-of = omega arith
-
-  -- green stands in both
-  green-of : bits (low * 256 + high) 5 5 ≡ low % 4 * 8 + high / 32
-  green-of = omega arith
-
-  -- blue stands in the first byte
-  blue-of : bits (low * 256 + high) 10 5 ≡ low / 4 % 32
-  blue-of = omega arith
 
 module _ (half : ℕ) where
   -- of two bytes loaded as one number, the low bits are those of the first
@@ -72,7 +58,7 @@ returns c =
     (at-once (half / 256 % 32) (half % 4 * 8 + half / 8192) (half / 4 % 32) (omega arith) (omega (arith, start .pre)) (omega arith)
     ∙ sym
     (word-by 5 (λ (v : ℕ). 8 * v + v / 4) widened-5 (low * 256 + high)
-    ∙ rw (red-of low high below, green-of low high below, blue-of low high below, low-loaded half, high-loaded half, between-loaded half)))
+    ∙ rw (red-555 low high below, green-555 low high below, blue-555 low high below, low-loaded half, high-loaded half, between-loaded half)))
 
 pub word-555-spec : {M : Type 1} → statement M
 word-555-spec = tie.close (tie.spec spread-555-requires widened-5-requires returns)
