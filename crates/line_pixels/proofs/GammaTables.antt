@@ -6,7 +6,6 @@ use mathlib.Core.List.{List}
 use native.Mathlib.Nat.{div-one, mod-lt}
 use native.Mathlib.Omega.{arith}
 use lib.Dec.{lit<}
-use lib.ListN.{getD}
 use Rattle.rules.specs.Rule.{value}
 use Rattle.rules.specs.Lists.{changed}
 use Rattle.rules.proofs.Change.{changed-same}

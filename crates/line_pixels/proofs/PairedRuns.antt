@@ -1,19 +1,17 @@
 -- Long runs in RGB 4-4-4 and 5-5-5 through gamma: the table of pairs green by green, what the two tables have, and why the sum of a pair and a blue is the plain colour of a pixel. Assumes nothing.
 use Prim.Native.Nat.{ℕ, _+_, _-_, _*_, _/_, _%_, _^_, _≤_, _<_}
-use mathlib.Core.Path.{_≡_, refl, ap, ap₂, _∙_}
+use mathlib.Core.Path.{_≡_, ap, ap₂, _∙_}
 use mathlib.Core.Bool.{Bool, true, false, cond}
 use mathlib.Core.Logic.{_⊎_, inl, inr}
 use mathlib.Core.List.{List}
-use native.Mathlib.Nat.{le-refl, zero-mul, add-mul, one-mul, mod-lt, mul-le-mul-right, div-lt-iff-lt-mul}
+use native.Mathlib.Nat.{mod-lt, div-lt-iff-lt-mul}
 use native.Mathlib.Omega.{arith}
-use borrow.Rule.Slice.PartMut.{putMid}
-use lib.Arith.{digits-div, digits-mod}
-use lib.Dec.{lit<, lit≤}
-use lib.ListN.{length, getD, take, drop}
+use lib.Dec.{lit≤}
+use lib.ListN.{length, getD}
 use lib.Pow.{pow-pos}
 use Rattle.rules.specs.Rule.{value}
 use Rattle.rules.specs.Lists.{filled}
-use Rattle.rules.proofs.Fill.{filled-same, filled-from, filled-length, fill-run, looked-up}
+use Rattle.rules.proofs.Fill.{filled-same, filled-from, filled-length, looked-up}
 use Rattle.words.specs.Field.{bits}
 use Rattle.words.specs.Bytes.{bigEndian}
 use Rattle.words.specs.Channels.{wordOf}
@@ -32,59 +30,6 @@ use Rattle.line_pixels.proofs.GammaTables.{gamma-sum}
 use Rattle.line_pixels.proofs.Halves.{AllBytes, HeldBy}
 use Rattle.line_pixels.proofs.LayersCases.{plain-of-normal}
 use Rattle.line_pixels.proofs.RgbRuns.{red-444, green-444, blue-444, red-555, green-555, blue-555, pixel-normal}
-
-module _ (reds greens : List ℕ) (values : ℕ) where
-  -- pair k: a row of pairs for each green, in it one for each red
-  abbrev pairOf : ℕ → ℕ
-  pairOf k = getD reds (k % values) 0 + getD greens (k / values) 0
-
-  -- `now` is what a loop has made of `before` once the greens before g are paired
-  pub record Pairing (before now : List ℕ) (g : ℕ) : Type 0 where
-    pub in-range : g ≤ values
-    pub fits : values * values ≤ length before
-    pub long : length now ≡ length before
-    pub list : now ≡ filled pairOf 0 before (g * values)
-
-  -- before the first green
-  pub pairing-start : {before : List ℕ} → values * values ≤ length before → Pairing before before 0
-  pairing-start fits = record { in-range = omega arith; fits = fits; long = refl; list = rw (zero-mul values) }
-
-  module _ {before now : List ℕ} {g : ℕ} (pairing : Pairing before now g) where
-    -- the row of the next green
-    pub next-row : (g + 1) * values ≡ g * values + values
-    next-row = rw (add-mul g 1 values, one-mul values)
-
-    -- it is in the table
-    pub row-fits : g < values → g * values + values ≤ length now
-    row-fits more =
-        let rows : (g + 1) * values ≤ values * values = mul-le-mul-right values (omega arith) in
-        omega (arith, rows, next-row, pairing .fits, pairing .long)
-
-    -- one green on, paired by a callee that was lent the table from its row on
-    pub pairing-next : (last : List ℕ) → g < values
-        → last ≡ filled (λ r. getD reds r 0 + getD greens g 0) 0 (take (length now - g * values) (drop (g * values) now)) values
-        → Pairing before (putMid (g * values) (length now - g * values) now last) (g + 1)
-    pairing-next last more row =
-        let x = g * values in
-        let rest = take (length now - x) (drop x now) in
-        let count : x + values - x ≡ values = omega arith in
-        let here : last ≡ filled pairOf x rest (x + values - x) =
-        rw count
-        (row
-        ∙ (filled-same (λ r. getD reds r 0 + getD greens g 0) (λ r. pairOf (x + r)) 0 rest values (λ r low high. let below : r < values = omega arith in rw (digits-mod g below, digits-div g below))
-        ∙ filled-from pairOf x rest values)) in
-        let list : putMid x (length now - x) now last ≡ filled pairOf 0 before (x + values) =
-        fill-run pairOf pairOf x (x + values) before now last (omega arith) (pairing .list) here (λ p low high. refl) in
-        record {
-          in-range = omega arith;
-          fits = pairing .fits;
-          long = ap length list ∙ filled-length pairOf 0 before (x + values) (omega (arith, row-fits more, pairing .long));
-          list = rw next-row list;
-        }
-
-  -- after the last green
-  pub pairing-over : {before now : List ℕ} {g : ℕ} → Pairing before now g → values ≤ g → now ≡ filled pairOf 0 before (values * values)
-  pairing-over {g = g} pairing all = let e : g ≡ values = omega (arith, pairing .in-range) in rw e at (pairing .list)
 
 module _ (store : List ℕ) (quarters values : ℕ) (reds₀ greens₀ : List ℕ) {reds greens : List ℕ}
     (reds-are : reds ≡ filled (λ v. gammaRed store (quarters * v / 4)) 0 reds₀ values)
@@ -107,10 +52,10 @@ module _ (store : List ℕ) (quarters values : ℕ) (reds₀ greens₀ : List �
       → blues ≡ filled (λ v. gammaBlue store (quarters * v / 4)) 0 blues₀ values → PairedBy store values quarters pairs blues
   words-made pairs₀ blues₀ some pairs-long blues-long pairs-are blues-are =
       record {
-        pairs-long = ap length pairs-are ∙ (filled-length (pairOf reds greens values) 0 pairs₀ (values * values) (omega arith) ∙ pairs-long);
+        pairs-long = ap length pairs-are ∙ (filled-length (λ k. getD reds (k % values) 0 + getD greens (k / values) 0) 0 pairs₀ (values * values) (omega arith) ∙ pairs-long);
         blues-long = ap length blues-are ∙ (filled-length (λ v. gammaBlue store (quarters * v / 4)) 0 blues₀ values (omega arith) ∙ blues-long);
         in-pairs = λ k below.
-            looked-up (pairOf reds greens values) pairs₀ (values * values) k 0 pairs-are below
+            looked-up (λ k. getD reds (k % values) 0 + getD greens (k / values) 0) pairs₀ (values * values) k 0 pairs-are below
             ∙ ap₂ (λ (r g : ℕ). r + g) (red-of (k % values) (mod-lt k some)) (green-of (k / values) (div-lt-iff-lt-mul some .1 below));
         in-blues = λ v below. looked-up (λ v. gammaBlue store (quarters * v / 4)) blues₀ values v 0 blues-are below;
       }

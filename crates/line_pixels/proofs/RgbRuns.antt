@@ -56,7 +56,7 @@ module _ (low high : ℕ) (below : high < 256) where
 
 module _ (width : ℕ) (closed : ℕ → ℕ) (is : (v : ℕ) → v < 2 ^ width → widened v width ≡ closed v) where
   -- a channel of this width is its bits, widened in closed form
-  channel-by : (sample low : ℕ) → channel sample low width ≡ closed (bits sample low width)
+  pub channel-by : (sample low : ℕ) → channel sample low width ≡ closed (bits sample low width)
   channel-by sample low = is (bits sample low width) (mod-lt (sample / 2 ^ low) (pow-pos width))
 
   -- the word of three channels of one width, in closed form

@@ -106,7 +106,7 @@ TablesFit red green blue = (k : ℕ) → k < 256 → (getD red k 0 ≤ 255 * 655
 abbrev pub byTables : List ℕ → List ℕ → List ℕ → ℕ → ℕ
 byTables red green blue word = getD red (word / 65536 % 256) 0 + getD green (word / 256 % 256) 0 + getD blue (word % 256) 0
 
--- two tables have the final words of a format whose channels all have so many values: that of red and green together stands behind those of the smaller greens, and a value picks the gamma word of so many quarters of it
+-- two tables have the final words of a format whose channels have `values` values each: pair k is red k % values and green k / values together, and a value picks the gamma word of the value widened, which is so many quarters of it
 pub record PairedBy (store : List ℕ) (values quarters : ℕ) (pairs blues : List ℕ) : Type 0 where
   pub pairs-long : length pairs ≡ values * values
   pub blues-long : length blues ≡ values

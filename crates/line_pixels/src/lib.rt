@@ -14,6 +14,7 @@ mod rgb;
 mod rgb_332;
 mod sampling;
 mod store;
+mod sums;
 
 // What every pixel of a line goes by: what the control words say, and which line it is.
 pub struct Screen {

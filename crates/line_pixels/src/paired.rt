@@ -9,6 +9,7 @@ ghost use Rattle.chip_registers.specs.Store.{storeLength};
 ghost use Rattle.line_pixels.specs.Inner.{PlainLent, FilledPlain, gammaRed, gammaGreen, gammaBlue, PairedBy, PairsFit, pairedAt, valuesOf};
 use crate::bytes::wide;
 use crate::fours::put_four;
+use crate::sums::sum_rows;
 use chip_registers::GAMMA_MAP_START;
 use line_colour::entry::WindowEntry;
 use line_formats::Format;
@@ -35,30 +36,6 @@ fn split_values(
     }
 }
 
-// A green together with each red.
-fn pair_green(green: u32, reds: &[u32; 32], values: usize, pairs: &mut [u32])
-    requires { ⌜ (green ≤ 255 * 256) × ((r : ℕ) → r < values → getD (now reds) r 0 ≤ 255 * 65536) × (values ≤ 32) × (values ≤ length (now pairs)) ⌝ }
-    ensures { λ _. ⌜ now (pairs .exit) ≡ filled (λ r. getD (now (reds .entry)) r 0 + green) 0 (now (pairs .entry)) values ⌝ }
-{
-    let mut r = 0;
-    while r < values {
-        pairs[r] = reds[r] + green;
-        r += 1;
-    }
-}
-
-// Each green together with each red.
-fn pair_greens(reds: &[u32; 32], greens: &[u32; 32], values: usize, pairs: &mut [u32])
-    requires { ⌜ ((v : ℕ) → v < values → (getD (now reds) v 0 ≤ 255 * 65536) × (getD (now greens) v 0 ≤ 255 * 256)) × (values ≤ 32) × (values * values ≤ length (now pairs)) ⌝ }
-    ensures { λ _. ⌜ now (pairs .exit) ≡ filled (λ k. getD (now (reds .entry)) (k % values) 0 + getD (now (greens .entry)) (k / values) 0) 0 (now (pairs .entry)) (values * values) ⌝ }
-{
-    let mut g = 0;
-    while g < values {
-        pair_green(greens[g], reds, values, &mut pairs[g * values..]);
-        g += 1;
-    }
-}
-
 // The final words of all pairs of red and green, and those of all blues.
 fn make_words(store: &[u32], values: usize, quarters: usize, pairs: &mut [u32], blues: &mut [u32])
     requires { ⌜ (length (now store) ≡ storeLength) × (1 ≤ values) × (values ≤ 32) × ((v : ℕ) → v < values → quarters * v / 4 < 256) × (length (now pairs) ≡ values * values) × (length (now blues) ≡ values) ⌝ }
@@ -67,7 +44,7 @@ fn make_words(store: &[u32], values: usize, quarters: usize, pairs: &mut [u32], 
     let mut reds = [0; 32];
     let mut greens = [0; 32];
     split_values(store, values, quarters, &mut reds, &mut greens, blues);
-    pair_greens(&reds, &greens, values, pairs);
+    sum_rows(&reds, &greens, values, values, pairs);
 }
 
 // The colour of two bytes in RGB 4-4-4: red and green are the second.

@@ -1,4 +1,4 @@
--- `line_pixels::fill::fill_plain` meets its contract: colours looked up in a long run of 8-bit samples or of pairs, else the normal colours through gamma. Assumes nothing.
+-- `line_pixels::fill::fill_plain` meets its contract: colours looked up in a long run of 8-bit samples, pairs and blues in one of RGB 4-4-4 or 5-5-5 through gamma, else the normal colours through gamma. Assumes nothing.
 use Prim.Native.Nat.{ℕ}
 use mathlib.Core.Path.{refl, _∙_}
 use borrow.Author.Needs.{needs}

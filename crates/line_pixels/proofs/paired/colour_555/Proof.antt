@@ -1,4 +1,4 @@
--- `line_pixels::paired::colour_555` meets its contract: the second byte with two bits of the first is the number of a pair, five other bits of the first that of a blue. Assumes nothing.
+-- `line_pixels::paired::colour_555` meets its contract: two bits of the first byte and the second byte are the number of a pair, five other bits of the first that of a blue. Assumes nothing.
 use Prim.Native.Nat.{_+_, _*_, _/_, _%_}
 use native.Mathlib.Omega.{arith}
 use borrow.Author.Needs.{needs}

@@ -6,7 +6,7 @@ use Rattle.line_pixels.proofs.paired.make_words.Statement.{statement}
 use Rattle.line_pixels.proofs.paired.make_words.Tie as tie
 
 -- where the gamma words were split
-abbrev split-of : tie.After-pair-greens-arg → tie.After-split-values
+abbrev split-of : tie.After-sum-rows-arg → tie.After-split-values
 split-of c = c .before .before .before .before .before
 
 -- where the call started
@@ -16,12 +16,13 @@ start-of c = c .before .before .before .before .before .before .before
 split-values-requires : tie.Need-split-values-requires
 split-values-requires c κs = search needs
 
-pair-greens-requires : tie.Need-pair-greens-requires
-pair-greens-requires c κs =
+sum-rows-requires : tie.Need-sum-rows-requires
+sum-rows-requires c κs =
     let split = split-of c in
     let start = start-of split in
     let a = start .args in
-    (channels-fit (a .store .now) (a .quarters) (a .values) _ _ (split .split-values .ensures .0) (split .split-values .ensures .1), start .pre .2, omega (arith, start .pre .4))
+    let fit = channels-fit (a .store .now) (a .quarters) (a .values) _ _ (split .split-values .ensures .0) (split .split-values .ensures .1) in
+    ((λ v below. fit v below .0), (λ v below. omega (arith, fit v below .1)), start .pre .2, start .pre .2, omega (arith, start .pre .4))
 
 same-length : tie.Need-same-length
 same-length c = search needs
@@ -36,9 +37,9 @@ returns c =
     let start = start-of split in
     let a = start .args in
     words-made (a .store .now) (a .quarters) (a .values) _ _ (split .split-values .ensures .0) (split .split-values .ensures .1) (a .pairs .now) (a .blues .now)
-    (start .pre .1) (start .pre .4) (start .pre .5) (paired .pair-greens .ensures) (split .split-values .ensures .2)
+    (start .pre .1) (start .pre .4) (start .pre .5) (paired .sum-rows .ensures) (split .split-values .ensures .2)
 
 pub make-words-spec : {M : Type 1} → statement M
 make-words-spec =
     tie.close
-    (tie.spec split-values-requires pair-greens-requires same-length same-length-2 returns)
+    (tie.spec split-values-requires sum-rows-requires same-length same-length-2 returns)

@@ -1,6 +1,5 @@
 -- `line_pixels::paired::split_values` meets its contract: one value a turn. Assumes nothing.
 use Prim.Native.Nat.{_-_, _*_, _/_}
-use mathlib.Core.Path.{ap, sym}
 use native.Mathlib.Nat.{zero-add}
 use native.Mathlib.Omega.{arith}
 use borrow.Author.Needs.{needs}
