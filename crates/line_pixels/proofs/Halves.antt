@@ -54,6 +54,10 @@ module _ (bytes : List ℕ) (all : AllBytes bytes) where
       ap (λ (z : ℕ). whole % 2 ^ z % 2 ^ count) room ∙ mod-mod-pow whole (8 * m - count) count in
       rw (without-last at (a + m) k, div-one) (sym low ∙ ap (λ (z : ℕ). z % 2 ^ count) (last-bytes at a m))
 
+-- one byte is its 8 bits
+pub one-byte : (bytes : List ℕ) (place : ℕ) → getD bytes place 0 < 256 → bits (bigEndian bytes place 1) 0 8 ≡ getD bytes place 0
+one-byte bytes place below = rw add-zero (omega arith)
+
 -- a sample starts at a byte's lowest bit
 whole-bytes : {depth : ℕ} {entry : WindowEntry} → Says depth entry → entry .low ≡ 8 * (entry .low / 8)
 whole-bytes says =
@@ -149,5 +153,4 @@ module _ (depth : ℕ) (entry : WindowEntry) (normal : List ℕ) (says : Says de
   sample-is-byte n x i {first} bytes starts eight =
       let place = first + n * i in
       let held : HeldBy depth entry x n 1 first = rw starts (held-by-one x says n eight bytes) in
-      let byte : bits (bigEndian normal place 1) 0 8 ≡ getD normal place 0 = rw add-zero (omega (arith, all place)) in
-      sample-in-bytes held i ∙ rw eight byte
+      sample-in-bytes held i ∙ rw eight (one-byte normal place (all place))

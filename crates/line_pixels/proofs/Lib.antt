@@ -9,6 +9,7 @@ pub mod LayersCases
 pub mod Colours
 pub mod NormalRuns
 pub mod RgbRuns
+pub mod MapRuns
 pub mod SumRows
 pub mod PairedRuns
 pub mod PixelShows

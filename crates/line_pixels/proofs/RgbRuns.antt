@@ -70,7 +70,7 @@ abbrev pub TwoBytes : List ℕ → ℕ → ℕ → Type 0
 TwoBytes bytes at half = (half ≡ getD bytes at 0 + getD bytes (at + 1) 0 * 256) × (getD bytes at 0 < 256) × (getD bytes (at + 1) 0 < 256)
 
 -- with its bytes swapped it is the number whose first byte is the highest
-swapped : (bytes : List ℕ) (at : ℕ) {half : ℕ} → TwoBytes bytes at half → half % 256 * 256 + half / 256 ≡ bigEndian bytes at 2
+pub swapped : (bytes : List ℕ) (at : ℕ) {half : ℕ} → TwoBytes bytes at half → half % 256 * 256 + half / 256 ≡ bigEndian bytes at 2
 swapped bytes at {half} two =
     let low : half % 256 ≡ getD bytes at 0 = omega arith in
     let high : half / 256 ≡ getD bytes (at + 1) 0 = omega arith in

@@ -24,7 +24,12 @@ fn correct_few(store: &[u32], words: &mut [u32], count: usize)
 }
 
 // The gamma map split into its channels, each where it stands in a colour.
-fn split(store: &[u32], red: &mut [u32; 256], green: &mut [u32; 256], blue: &mut [u32; 256])
+pub(crate) fn split(
+    store: &[u32],
+    red: &mut [u32; 256],
+    green: &mut [u32; 256],
+    blue: &mut [u32; 256],
+)
     requires { ⌜ (length (now store) ≡ storeLength) × (length (now red) ≡ 256) × (length (now green) ≡ 256) × (length (now blue) ≡ 256) ⌝ }
     ensures { λ _. ⌜ SplitBy (now (store .entry)) (now (red .exit)) (now (green .exit)) (now (blue .exit)) ⌝ }
 {
@@ -39,7 +44,7 @@ fn split(store: &[u32], red: &mut [u32; 256], green: &mut [u32; 256], blue: &mut
 }
 
 // A word through the three tables.
-fn through(red: &[u32; 256], green: &[u32; 256], blue: &[u32; 256], word: u32) -> u32
+pub(crate) fn through(red: &[u32; 256], green: &[u32; 256], blue: &[u32; 256], word: u32) -> u32
     requires { ⌜ TablesFit (now red) (now green) (now blue) ⌝ }
     ensures { λ r. ⌜ r ≡ byTables (now (red .entry)) (now (green .entry)) (now (blue .entry)) word ⌝ }
 {

@@ -1,14 +1,14 @@
 // Runs of pixels with one window entry, each filled into words that are lent from its first pixel on.
 ghost use Prim.Native.Nat.{_+_, _≤_};
 ghost use mathlib.Core.Path.{_≡_};
-ghost use mathlib.Core.Bool.{true};
+ghost use mathlib.Core.Bool.{true, false};
 ghost use mathlib.Core.Logic.{_⊎_};
 ghost use lib.ListN.{length};
 ghost use Rattle.rules.specs.Rule.{value};
 ghost use Rattle.rules.specs.Lists.{filled};
 ghost use Rattle.line_pixels.specs.Cells.{pixelView};
 ghost use Rattle.line_pixels.specs.Colour.{colourOfPixel};
-ghost use Rattle.line_pixels.specs.Inner.{PlainLent, PixelsLent, FilledNormal, FilledPlain, FilledUnder, FilledPixels};
+ghost use Rattle.line_pixels.specs.Inner.{PlainLent, PixelsLent, FilledPlain, FilledUnder, FilledPixels};
 use crate::Screen;
 use crate::correction::correct;
 use crate::lengths::LAYERED_RUN;
@@ -20,47 +20,20 @@ use crate::overlay::lay_overlay;
 use crate::paired::fill_paired;
 use crate::paired::is_paired;
 use crate::rgb::fill_rgb;
-use crate::sampling::Sampling;
 use line_colour::entry::WindowEntry;
 use line_formats::Format;
-use line_formats::Index8;
 
-// A run's normal colours, by the loop of its format.
-fn fill_normal(
-    depth: u32,
-    entry: WindowEntry,
-    store: &[u32],
-    normal: &[u8],
-    x: usize,
-    count: usize,
-    out: &mut [u32],
-)
-    requires { ⌜ PlainLent depth entry (now store) (now normal) (x + count) × (count ≤ length (now out)) ⌝ }
-    ensures { λ _. ⌜ FilledNormal depth entry (now (store .entry)) (now (normal .entry)) x count (now (out .entry)) (now (out .exit)) ⌝ }
+// Whether the samples of a format are indices.
+fn indexed(format: Format) -> bool
+    ensures { λ r. ⌜ (r ≡ true → (format ≡ Format.Index8) ⊎ (format ≡ Format.Index12)) × (r ≡ false → (format ≡ Format.Rgb332) ⊎ (format ≡ Format.Rgb444) ⊎ (format ≡ Format.Rgb555) ⊎ (format ≡ Format.Rgb888)) ⌝ }
 {
-    let sampling = Sampling::of(entry);
-    let format = entry.format;
-    // The arms stand apart since each loop asks for its format.
     match format {
-        Format::Index8 => {
-            let first = Index8::map_entry(entry.bank, 0);
-            fill_mapped(depth, sampling, first, store, normal, x, count, out);
-        }
-        Format::Index12 => {
-            fill_mapped(depth, sampling, 0, store, normal, x, count, out);
-        }
-        Format::Rgb332 => {
-            fill_rgb(depth, entry, normal, x, count, out);
-        }
-        Format::Rgb444 => {
-            fill_rgb(depth, entry, normal, x, count, out);
-        }
-        Format::Rgb555 => {
-            fill_rgb(depth, entry, normal, x, count, out);
-        }
-        Format::Rgb888 => {
-            fill_rgb(depth, entry, normal, x, count, out);
-        }
+        Format::Index8 => true,
+        Format::Index12 => true,
+        Format::Rgb332 => false,
+        Format::Rgb444 => false,
+        Format::Rgb555 => false,
+        Format::Rgb888 => false,
     }
 }
 
@@ -104,7 +77,11 @@ fn fill_plain(
             return;
         }
     }
-    fill_normal(depth, entry, store, normal, x, count, out);
+    if indexed(format) {
+        fill_mapped(depth, entry, store, normal, x, count, out);
+        return;
+    }
+    fill_rgb(depth, entry, normal, x, count, out);
     correct(store, entry.bypass, out, count);
 }
 

@@ -3,6 +3,9 @@
 // The shortest run that is drawn layer by layer. A single pixel is drawn by the function that says what any pixel shows.
 pub(crate) const LAYERED_RUN: usize = 2;
 
+// The shortest run of indices that becomes map entries first.
+pub(crate) const MAPPED_RUN: usize = 16;
+
 // The shortest run of 8-bit samples for which the colours of all samples are made first.
 pub(crate) const LOOKED_UP_RUN: usize = 192;
 

@@ -2,6 +2,7 @@
 mod bytes;
 mod correction;
 mod cursor;
+mod entries;
 pub mod fill;
 mod fours;
 mod layers;

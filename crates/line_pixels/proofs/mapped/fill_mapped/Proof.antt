@@ -1,112 +1,125 @@
--- `line_pixels::mapped::fill_mapped` meets its contract: each pixel gets the map entry that its index shows. Assumes nothing.
-use Prim.Native.Nat.{ℕ, _+_, _-_, _<_}
-use mathlib.Core.Path.{_≡_, sym, ap, _∙_}
-use mathlib.Core.List.{List, []}
-use native.Mathlib.Nat.{div-one, mod-eq-of-lt}
-use native.Mathlib.Omega.{arith}
+-- `line_pixels::mapped::fill_mapped` meets its contract: a few pixels one by one, else the map entries that the samples show become their colours, through gamma. Assumes nothing.
+use Prim.Native.Nat.{ℕ}
+use mathlib.Core.Path.{refl, _∙_}
+use mathlib.Core.Bool.{false}
+use borrow.Author.Needs.{needs}
+use borrow.Author.Tests.{not-true, not-false}
 use Rattle.rules.specs.Rule.{value}
-use Rattle.rules.proofs.Fill.{Filling, fill-start, fill-next, fill-over}
-use Rattle.words.specs.Field.{bits}
-use Rattle.line_colour.specs.Shown.{shownOf}
-use Rattle.line_colour.specs.declared.entry.Shown.the-variants.{MapEntry}
-use Rattle.line_colour.proofs.Defined.{map-entry-below}
-use Rattle.line_pixels.specs.Cells.{pixelView}
-use Rattle.line_pixels.specs.Colour.{normalAt}
-use Rattle.line_pixels.proofs.Rows.{said-says, pixels-le}
-use Rattle.line_pixels.proofs.LayersCases.{normal-of-map}
-use Rattle.line_pixels.proofs.NormalRuns.{pixel-in-row}
+use Rattle.rules.proofs.Change.{changed-run, changed-anywhere}
+use Rattle.line_colour.specs.Shown.{sampleOf, shownOf}
+use Rattle.line_pixels.specs.Cells.{pixelWord, pixelView}
+use Rattle.line_pixels.specs.Colour.{throughGamma, plainAt}
+use Rattle.line_pixels.specs.Inner.{entryShown, AllEntries, mapColour}
+use Rattle.line_pixels.proofs.Rows.{said-says}
+use Rattle.line_pixels.proofs.MapRuns.{entries-below, entry-plain}
 use Rattle.line_pixels.proofs.mapped.fill_mapped.Statement.{statement}
 use Rattle.line_pixels.proofs.mapped.fill_mapped.Tie as tie
 
--- the pixels before i are filled with their normal colours, whatever the overlay row holds
-abbrev Inv-loop : tie.InvT-loop
-Inv-loop depth sampling first store normal x count out₀ i₀ out i =
-    (overlay : List ℕ) → Filling (λ p. value (pixelView store normal overlay) (normalAt depth (sampling .entry) p)) x count out₀ out i
-
--- the pixels that are left
-abbrev μ-loop : tie.MeasureT-loop
-μ-loop depth sampling first store normal x count out₀ i₀ out i = count - i
-
 -- where the run started
-abbrev start-of : tie.At-loop Inv-loop μ-loop → tie.Start Inv-loop μ-loop
-start-of c = c .before .before .before .before
+abbrev start-of : tie.After-fill-entries → tie.Start
+start-of c = c .before .before .before .before .before .before
 
--- an index shows the entry that stands as many behind the first
-shows : (c : tie.After-sample-at Inv-loop μ-loop)
-    → let a = start-of (c .before .before) .args in shownOf (a .sampling .entry) (c .sample-at .result) ≡ MapEntry (a .first + c .sample-at .result)
-shows c =
-    let start = start-of (c .before .before) in
-    let a = start .args in
-    let all : bits (c .sample-at .result) 0 (a .sampling .bits) ≡ c .sample-at .result = rw div-one (mod-eq-of-lt (c .sample-at .ensures .1)) in
-    start .pre .2 (c .sample-at .result) ∙ ap (λ (n : ℕ). MapEntry (a .first + n)) all
+-- the map entry that a pixel of the run shows
+abbrev number : tie.After-fill-entries → ℕ → ℕ
+number c p = let a = start-of c .args in entryShown (shownOf (a .entry) (sampleOf (a .entry) (pixelWord (a .depth) (a .normal .now) p)))
 
--- and that is in the map
-in-map : (c : tie.After-sample-at Inv-loop μ-loop) → start-of (c .before .before) .args .first + c .sample-at .result < 4608
+-- what the run is filled with first is in the map
+in-map : (c : tie.After-fill-entries) → AllEntries (c .fill-entries .last .1 .1 .1 .1 .1 .0) (start-of c .args .count)
 in-map c =
-    let start = start-of (c .before .before) in
+    let start = start-of c in
     let a = start .args in
-    map-entry-below (a .depth) (a .sampling .entry) (c .sample-at .result) (said-says (a .depth) (a .sampling .entry) (start .pre .0 .said)) (shows c)
+    entries-below (a .depth) (a .entry) (a .normal .now) (start .pre .1) (a .x) (a .count) (a .out .now) (said-says (a .depth) (a .entry) (start .pre .0 .said)) (c .fill-entries .ensures)
 
-loop-holds : tie.Need-loop-holds Inv-loop μ-loop
-loop-holds c = λ overlay. fill-start (c .before .before .before .pre .3)
+first-entry-requires : tie.Need-first-entry-requires
+first-entry-requires c κs = c .before .before .before .before .pre .1
 
-add-sample-at : tie.Need-add-sample-at Inv-loop μ-loop
-add-sample-at c = omega (arith, pixels-le (start-of (c .before) .pre .0))
+of-requires : tie.Need-of-requires
+of-requires c κs = search needs
 
-sample-at-requires : tie.Need-sample-at-requires Inv-loop μ-loop
-sample-at-requires c κs =
-    let start = start-of (c .before) in
-    (start .pre .0 .said, start .pre .1, pixel-in-row (start .args .depth) (start .args .sampling .entry) (start .args .normal .now) (start .args .x) (start .pre .0 .said, start .pre .0 .normal-long) (c .loop-test .taken))
+fill-few-requires : tie.Need-fill-few-requires
+fill-few-requires c κs =
+    let of = c .before in
+    let start = of .before .before .before .before .before .before in
+    rw (of .of .ensures) (start .pre .0, refl, of .before .first-entry .ensures, start .pre .2)
 
-add-mapped : tie.Need-add-mapped Inv-loop μ-loop
-add-mapped c = omega (arith, in-map c)
+same-length : tie.Need-same-length
+same-length c = search needs
 
-mapped-requires : tie.Need-mapped-requires Inv-loop μ-loop
-mapped-requires c κs = (start-of (c .before .before) .pre .0 .store-long, in-map c)
+returns : tie.Need-returns
+returns c = rw (c .before .before .before .before .of .ensures) at (c .before .before .fill-few .ensures)
 
-mul-out : tie.Need-mul-out Inv-loop μ-loop
-mul-out c = omega (arith, c .before .before .before .loop .inv [])
+fill-entries-requires : tie.Need-fill-entries-requires
+fill-entries-requires c κs = search needs
 
-slice-write-out : tie.Need-slice-write-out Inv-loop μ-loop
-slice-write-out c = omega (arith, c .before .before .before .loop .inv [])
+map-many-requires : tie.Need-map-many-requires
+map-many-requires c κs =
+    let entries = c .before .before .before .before .before .before in
+    (start-of entries .pre .0 .store-long, in-map entries, search needs)
 
-add-i : tie.Need-add-i Inv-loop μ-loop
-add-i c = omega (arith, c .before .before .before .loop .inv [])
+same-length-2 : tie.Need-same-length-2
+same-length-2 c = search needs
 
-loop-less : tie.Need-loop-less Inv-loop μ-loop
-loop-less c = omega arith
-
-loop-again : tie.Need-loop-again Inv-loop μ-loop
-loop-again c =
-    let at-loop = c .before .before .before in
-    let a = start-of at-loop .args in
+returns-2 : tie.Need-returns-2
+returns-2 c =
+    let many = c .before .before in
+    let bypass = many .before .before in
+    let entries = bypass .before .before .before .before .before in
+    let start = start-of entries in
+    let a = start .args in
+    let mid = entries .fill-entries .last .1 .1 .1 .1 .1 .0 in
     λ overlay.
-    fill-next (at-loop .loop .inv overlay) (c .before .before .loop-test .taken)
-    (normal-of-map (pixelView (a .store .now) (a .normal .now) overlay) (a .depth) (a .sampling .entry) (a .x + at-loop .loop .i)
-    (sym (ap (shownOf (a .sampling .entry)) (c .before .sample-at .ensures .0)) ∙ shows (c .before))
-    (c .mapped .ensures (a .normal .now) overlay))
+    let memory = pixelView (a .store .now) (a .normal .now) overlay in
+    changed-run (λ _ n. value memory (throughGamma false (mapColour (a .store .now) n))) (number entries) (λ p. value memory (plainAt (a .depth) (a .entry) p))
+    (a .x) (a .out .now) mid _ (a .count)
+    (entries .fill-entries .ensures)
+    (many .map-many .ensures (a .normal .now) overlay ∙ changed-anywhere (λ (n : ℕ). value memory (throughGamma false (mapColour (a .store .now) n))) 0 (a .x) mid (a .count))
+    (entry-plain (a .depth) (a .entry) (a .normal .now) (start .pre .1) (a .store .now) overlay (not-true _ (bypass .if3 .taken)))
 
-same-length : tie.Need-same-length Inv-loop μ-loop
-same-length c = c .before .loop .inv [] .long
+map-words-requires : tie.Need-map-words-requires
+map-words-requires c κs =
+    let entries = c .before .before .before .before in
+    (start-of entries .pre .0 .store-long, in-map entries, search needs)
 
-returns : tie.Need-returns Inv-loop μ-loop
-returns c = λ overlay. fill-over (c .before .loop .inv overlay) (c .loop-test .left)
+correct-requires : tie.Need-correct-requires
+correct-requires c κs = search needs
+
+same-length-3 : tie.Need-same-length-3
+same-length-3 c = search needs
+
+returns-3 : tie.Need-returns-3
+returns-3 c =
+    let corrected = c .before .before in
+    let mapped = corrected .before .before .before .before in
+    let entries = mapped .before .before .before .before .before in
+    let start = start-of entries in
+    let a = start .args in
+    let mid = entries .fill-entries .last .1 .1 .1 .1 .1 .0 in
+    let colours = mapped .map-words .last .1 .0 in
+    λ overlay.
+    let memory = pixelView (a .store .now) (a .normal .now) overlay in
+    changed-run (λ _ word. value memory (throughGamma (a .entry .bypass) word)) (λ p. mapColour (a .store .now) (number entries p)) (λ p. value memory (plainAt (a .depth) (a .entry) p))
+    (a .x) (a .out .now) colours _ (a .count)
+    (changed-run (λ _ n. mapColour (a .store .now) n) (number entries) (λ p. mapColour (a .store .now) (number entries p)) (a .x) (a .out .now) mid colours (a .count)
+    (entries .fill-entries .ensures)
+    (mapped .map-words .ensures ∙ changed-anywhere (λ (n : ℕ). mapColour (a .store .now) n) 0 (a .x) mid (a .count))
+    (λ p. refl))
+    (corrected .correct .ensures (a .normal .now) overlay ∙ changed-anywhere (λ (word : ℕ). value memory (throughGamma (a .entry .bypass) word)) 0 (a .x) colours (a .count))
+    (entry-plain (a .depth) (a .entry) (a .normal .now) (start .pre .1) (a .store .now) overlay refl)
 
 pub fill-mapped-spec : {M : Type 1} → statement M
 fill-mapped-spec =
     tie.close
     (tie.spec
-    Inv-loop
-    μ-loop
-    loop-holds
-    add-sample-at
-    sample-at-requires
-    add-mapped
-    mapped-requires
-    mul-out
-    slice-write-out
-    add-i
-    loop-less
-    loop-again
+    first-entry-requires
+    of-requires
+    fill-few-requires
     same-length
-    returns)
+    returns
+    fill-entries-requires
+    map-many-requires
+    same-length-2
+    returns-2
+    map-words-requires
+    correct-requires
+    same-length-3
+    returns-3)
