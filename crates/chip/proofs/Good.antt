@@ -156,7 +156,7 @@ module _ (chip : Chip) where
     dot-whole = chosen (λ (after : Chip). HasArrays (after .0)) (drains (chip .0)) (whole .0, sized-popped (chip .0 .queue) (whole .1)) whole
 
     -- the oldest write may leave
-    pub applied-good : goodState (chip .0) ≡ true → goodState (oldestApplied chip .0) ≡ true
+    applied-good : goodState (chip .0) ≡ true → goodState (oldestApplied chip .0) ≡ true
     applied-good good =
         let said = good-says (chip .0) good in
         says-good (oldestApplied chip .0) (said .0) (said .1) (said .2) (good-popped (chip .0 .queue) (whole .1) (said .3))

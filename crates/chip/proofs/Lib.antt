@@ -14,4 +14,5 @@ pub mod RuleInWords
 pub mod DotInWords
 pub mod Orders
 pub mod Taken
+pub mod Changes
 pub mod Unique

@@ -7,21 +7,21 @@ use native.Mathlib.Numerals.{add-one}
 use native.Mathlib.Omega.{arith}
 use borrow.Author.Tests.{ltb-true}
 use lib.Dec.{ltb}
-use lib.ListN.{length, length-set}
 use Rattle.chip_timing.specs.Signals.{signalsAt}
 use Rattle.chip_timing.specs.Move.{nextPosition, positionAfter}
 use Rattle.chip_timing.specs.Walk.{walked}
 use Rattle.chip_timing.proofs.Walked.{walk-stops, walk-left-le}
-use Rattle.chip_queue.proofs.Order.{sized-popped}
+use Rattle.chip_queue.specs.Queue.{without}
 use Rattle.chip_queue.proofs.Rule.{both}
-use Rattle.chip.specs.State.{controlWord, windowsOf, withPosition, goodState, HasArrays}
+use Rattle.chip.specs.State.{controlWord, windowsOf, withPosition, withQueue}
 use Rattle.chip.specs.Call.{Chip}
-use Rattle.chip.specs.Dot.{drains, afterDot}
+use Rattle.chip.specs.Change.{changedBy}
+use Rattle.chip.specs.Dot.{drains, oldestApplied, afterDot}
 use Rattle.chip.specs.Dots.{afterDots}
-use Rattle.chip.specs.Inner.{appliedBy, behind, WalksOn}
+use Rattle.chip.specs.Inner.{appliedBy, storedBy, behind, WalksOn}
 use Rattle.chip.specs.declared.state.State.{State}
 use Rattle.chip.specs.declared.pass.Pass.{Pass}
-use Rattle.chip.proofs.Good.{applied-good}
+use Rattle.chip.specs.declared.change.QueueChange.the-variants.{Drained}
 use Rattle.chip.proofs.Runs.{draining-dot, idle-dot, drains-by, dots-none-wait, dots-walk}
 
 -- ---- so many writes applied
@@ -39,24 +39,11 @@ module _ (chip : Chip) where
   applied-control zero = refl
   applied-control (suc count) = applied-control count
 
-  -- the store has as many words
-  pub applied-length : (count : ℕ) → length (appliedBy count chip .1) ≡ length (chip .1)
-  unfolding appliedBy
-  applied-length zero = refl
-  applied-length (suc count) = simp length-set (applied-length count)
-
-  module _ (whole : HasArrays (chip .0)) where
-    -- the arrays keep their sizes
-    applied-whole : (count : ℕ) → HasArrays (appliedBy count chip .0)
-    unfolding appliedBy
-    applied-whole zero = whole
-    applied-whole (suc count) = let before = applied-whole count in (before .0, sized-popped (appliedBy count chip .0 .queue) (before .1))
-
-    -- the state keeps its rule
-    pub all-good : goodState (chip .0) ≡ true → (count : ℕ) → goodState (appliedBy count chip .0) ≡ true
-    unfolding appliedBy
-    all-good good zero = good
-    all-good good (suc count) = applied-good (appliedBy count chip) (applied-whole count) (all-good good count)
+  -- they have left the queue, and are in the store
+  applied-is : (count : ℕ) → appliedBy count chip ≡ (withQueue (chip .0) (without (chip .0 .queue) count), storedBy count (chip .0 .queue) (chip .1))
+  unfolding appliedBy storedBy without
+  applied-is zero = refl
+  applied-is (suc count) = ap oldestApplied (applied-is count)
 
 -- ---- the chip behind dots
 
@@ -64,6 +51,13 @@ module _ (chip : Chip) where
 pub none-applied : (state : State) (store : List ℕ) (pass : Pass) → pass .taken ≡ 0 → (withPosition state (pass .at), store) ≡ behind (state, store) pass
 unfolding appliedBy
 none-applied state store pass none = rw none refl
+
+-- where some are applied, they have left the queue, and are in the store
+pub some-applied : (state : State) (store : List ℕ) (pass : Pass)
+    → (changedBy state (record { control = state .control; at = pass .at; queue = Drained (pass .taken) }), storedBy (pass .taken) (state .queue) store) ≡ behind (state, store) pass
+some-applied state store pass =
+    ap (λ (applied : Chip). (record { control = state .control; at = pass .at; queue = applied .0 .queue }, applied .1))
+    (sym (applied-is (state, store) (pass .taken)))
 
 -- ---- one dot more
 

@@ -20,7 +20,17 @@ use Rattle.chip.specs.declared.report.Report.{Report}
 use Rattle.chip.specs.declared.report.DotsAnswer.{DotsAnswer}
 use Rattle.chip.specs.declared.report.DotsAnswer.the-variants.{Reported, Refused as DotsRefused}
 use Rattle.chip.specs.declared.report.Dotted.{Dotted}
+use Rattle.chip.specs.Call.{Chip}
+use Rattle.chip.specs.declared.change.Change.{Change}
+use Rattle.chip.specs.declared.write.Wrote.{Wrote}
+use Rattle.chip.specs.declared.report.Ran.{Ran}
+use Rattle.chip.proofs.Changes.{change-known}
 use Rattle.chip.proofs.state.State.new.Reads as new
+use Rattle.chip.proofs.state.State.unchanged.Reads as unchanged
+use Rattle.chip.proofs.state.State.queue_changed.Reads as queue-changed
+use Rattle.chip.proofs.state.State.changed.Reads as changed
+use Rattle.chip.proofs.state.State.store_write.Reads as store-write
+use Rattle.chip.proofs.state.State.run.Reads as run
 use Rattle.chip.proofs.state.State.good.Reads as good
 use Rattle.chip.proofs.state.State.write.Reads as write
 use Rattle.chip.proofs.state.State.read.Reads as read
@@ -34,6 +44,18 @@ new-unique = by-equation _ _
 -- one answer says whether a state keeps its rule
 pub good-unique : OneAnswer good.Post
 good-unique = by-equation _ _
+
+-- one change leaves a state as it is
+pub unchanged-unique : OneAnswer unchanged.Post
+unchanged-unique = by-equation _ _
+
+-- one state is left by what becomes of a queue
+pub queue-changed-unique : OneAnswer queue-changed.Post
+queue-changed-unique = by-equation _ _
+
+-- one state is left by a change
+pub changed-unique : OneAnswer changed.Post
+changed-unique = by-equation _ _
 
 -- ---- an answer is known by what it says
 
@@ -54,6 +76,17 @@ write-unique =
     same-result answerOutcome answerOf answer-back (λ (state : State) (answer : Answer). record { state = state; answer = answer })
     (r .state) (r′ .state) (r .answer) (r′ .answer))
     _ (λ k exit. now (exit .1 .0)) _
+
+-- what a write changes is one change, with one answer and one store
+pub store-write-unique : OneOutcome (λ k exit. now (exit .1 .0)) store-write.Post
+store-write-unique k args one other exit exit′ meets meets′ =
+    let is = meets .0 ∙ sym (meets′ .0) in (
+      ap (λ (change : Change). record { change = change; answer = one .answer })
+          (change-known (args .0) (one .change) (other .change) (meets .1) (meets′ .1) (ap (λ (after : Chip × Outcome Numbered (Unit {0})). after .0 .0) is))
+          ∙ ap (λ (answer : Answer). record { change = other .change; answer = answer })
+          (sym (answer-back (one .answer)) ∙ ap answerOf (ap (λ (after : Chip × Outcome Numbered (Unit {0})). after .1) is) ∙ answer-back (other .answer)),
+      ap (λ (after : Chip × Outcome Numbered (Unit {0})). after .0 .1) is,
+    )
 
 -- ---- read
 
@@ -101,3 +134,14 @@ dot-unique = by-outcome (λ k (r : Dotted). r .state) (λ k (r : Dotted). dotsOu
 -- so many dots have one answer and leave one store
 pub dots-unique : OneOutcome (λ k exit. now (exit .1 .0)) dots.Post
 dots-unique = by-outcome (λ k (r : Dotted). r .state) (λ k (r : Dotted). dotsOutcome (r .answer)) (λ k. same-dots) _ (λ k exit. now (exit .1 .0)) _
+
+-- what so many dots change is one change, with one answer and one store
+pub run-unique : OneOutcome (λ k exit. now (exit .1 .0)) run.Post
+run-unique k args one other exit exit′ meets meets′ =
+    let is = meets .0 ∙ sym (meets′ .0) in (
+      ap (λ (change : Change). record { change = change; answer = one .answer })
+          (change-known (args .0) (one .change) (other .change) (meets .1) (meets′ .1) (ap (λ (after : Chip × Outcome Numbered Report). after .0 .0) is))
+          ∙ ap (λ (answer : DotsAnswer). record { change = other .change; answer = answer })
+          (sym (dots-back (one .answer)) ∙ ap dots-answer (ap (λ (after : Chip × Outcome Numbered Report). after .1) is) ∙ dots-back (other .answer)),
+      ap (λ (after : Chip × Outcome Numbered Report). after .0 .1) is,
+    )

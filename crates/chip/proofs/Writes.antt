@@ -1,7 +1,7 @@
 -- What a write comes to, by its verdict. Assumes nothing.
 use Prim.Native.Nat.{ℕ}
 use mathlib.Core.Path.{_≡_, ap, sym, _∙_}
-use mathlib.Core.Bool.{Bool, false}
+use mathlib.Core.Bool.{Bool, false, _&&_}
 use borrow.Author.Tests.{eqb-true, not-false}
 use lib.ListN.{length}
 use Rattle.rules.specs.Rule.{Outcome, ok, refused, andThen}
@@ -12,7 +12,7 @@ use Rattle.refusals.specs.Refusal.{answerOutcome}
 use Rattle.refusals.specs.declared.Answer.{Answer}
 use Rattle.chip_registers.specs.Named.{addressPlace, named}
 use Rattle.chip_registers.specs.Store.{storeLength}
-use Rattle.chip_registers.specs.Access.{readOnly}
+use Rattle.chip_registers.specs.Access.{readOnly, waits}
 use Rattle.chip_registers.specs.declared.Register.{Register}
 use Rattle.chip_registers.specs.declared.Named.{Named}
 use Rattle.chip_registers.specs.declared.Named.the-variants.{Is}
@@ -42,9 +42,9 @@ module _ (chip : Chip) (address value : ℕ) where
     unfolding written
     write-goes = passes chip _ (writeFaults chip address value) fine ∙ ap (λ (what : Named). (putNamed chip what value, ok tt)) there
 
-    -- where a write goes to its register, the register can be written, and the store has its length
-    pub goes-says : (readOnly register ≡ false) × (length (chip .1) ≡ storeLength)
+    -- where a write goes to its register, the register can be written, the store has its length, and a write that waits has room
+    pub goes-says : (readOnly register ≡ false) × (length (chip .1) ≡ storeLength) × ((waits register && full (chip .0 .queue)) ≡ false)
     goes-says =
         let clear = clear-verdict (writeFaults chip address value) fine in
         let own : Clear (registerFaults (full (chip .0 .queue)) (Is register) (addressPlace address) value) = rw there at (clear .1 .1) in
-        (own .0, eqb-true _ _ (not-false _ (clear .1 .0)))
+        (own .0, eqb-true _ _ (not-false _ (clear .1 .0)), own .1 .1 .0)

@@ -3,6 +3,7 @@ use Prim.Native.Nat.{ℕ, zero, suc, _≤_, _<_}
 use mathlib.Core.Path.{_≡_}
 use mathlib.Core.Bool.{Bool, true}
 use mathlib.Core.List.{List}
+use lib.ListN.{set}
 use Rattle.rules.specs.Rule.{Outcome, ok, refused, andThen}
 use Rattle.rules.specs.Faults.{Numbered}
 use Rattle.rules.specs.Checked.{verdict}
@@ -12,6 +13,9 @@ use Rattle.chip_timing.specs.Signals.{signalsAt}
 use Rattle.chip_timing.specs.declared.Walk.{Walk}
 use Rattle.chip_registers.specs.declared.Named.{Named}
 use Rattle.chip_registers.specs.declared.Named.the-variants.{Is}
+use Rattle.chip_queue.specs.Waiting.{target}
+use Rattle.chip_queue.specs.Queue.{oldest, without}
+use Rattle.chip_queue.specs.declared.Queue.{Queue}
 use Rattle.chip.specs.State.{windowsOf}
 use Rattle.chip.specs.Call.{Chip}
 use Rattle.chip.specs.Write.{addressFaults}
@@ -35,6 +39,12 @@ Judged test what (Refused refusal) = test ≡ refused (numbered refusal)
 unfoldable pub appliedBy : ℕ → Chip → Chip
 appliedBy zero chip = chip
 appliedBy (suc count) chip = oldestApplied (appliedBy count chip)
+
+-- so many of the oldest writes of a queue in a store, one after the other
+unfoldable pub storedBy : ℕ → Queue → List ℕ → List ℕ
+storedBy zero queue store = store
+storedBy (suc count) queue store =
+    let write = oldest (without queue count) in set (storedBy count queue store) (target write) (write .value)
 
 -- the chip behind dots that come so far: so many writes are applied, and the beam is there
 abbrev pub behind : Chip → Pass → Chip

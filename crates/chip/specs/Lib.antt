@@ -1,5 +1,6 @@
 pub mod State
 pub mod Call
+pub mod Change
 pub mod Write
 pub mod Read
 pub mod Report

@@ -2,11 +2,13 @@
 ghost use mathlib.Core.Path.{_≡_};
 ghost use Rattle.chip_timing.specs.Signals.{signalsAt};
 ghost use Rattle.chip.specs.State.{windowsOf};
+ghost use Rattle.chip.specs.Change.{changedBy};
 ghost use Rattle.chip.specs.Report.{dotsOutcome};
 ghost use Rattle.chip.specs.Dot.{dotted};
 use crate::pass::Pass;
 use crate::report::DotsAnswer;
 use crate::report::Dotted;
+use crate::report::Ran;
 use crate::report::Report;
 use crate::state::State;
 use chip_timing::Position;
@@ -22,29 +24,35 @@ impl State {
         windows.signals(at)
     }
 
-    // One dot.
-    pub fn dot(self, store: &mut [u32]) -> Dotted
-        ensures { λ r. ⌜ ((r .state, now (store .exit)), dotsOutcome (r .answer)) ≡ dotted (self, now (store .entry)) ⌝ }
+    // What one dot changes.
+    fn one(self, store: &mut [u32]) -> Ran
+        ensures { λ r. ⌜ ((changedBy self (r .change), now (store .exit)), dotsOutcome (r .answer)) ≡ dotted (self, now (store .entry)) ⌝ }
     {
         let allowed = self.call_check(store.len());
         if let Answer::Refused(refusal) = allowed {
-            return Dotted {
-                state: self,
+            return Ran {
+                change: self.unchanged(),
                 answer: DotsAnswer::Refused(refusal),
             };
         }
         let at = self.at;
         let signals = self.signals(at);
         let pass = self.one_more(Pass { at, taken: 0 }, signals.blank);
-        let answer = DotsAnswer::Reported(Report::Last(signals));
-        if pass.taken == 0 {
-            return Dotted {
-                state: self.at_position(pass.at),
-                answer,
-            };
+        Ran {
+            change: self.passing(store, pass),
+            answer: DotsAnswer::Reported(Report::Last(signals)),
         }
+    }
+
+    // One dot.
+    pub fn dot(self, store: &mut [u32]) -> Dotted
+        ensures { λ r. ⌜ ((r .state, now (store .exit)), dotsOutcome (r .answer)) ≡ dotted (self, now (store .entry)) ⌝ }
+    {
+        let ran = self.one(store);
+        let change = ran.change;
+        let answer = ran.answer;
         Dotted {
-            state: self.after(store, pass),
+            state: self.changed(change),
             answer,
         }
     }

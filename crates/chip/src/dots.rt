@@ -2,12 +2,14 @@
 ghost use Prim.Native.Nat.{ℕ, _≤_};
 ghost use mathlib.Core.Path.{_≡_};
 ghost use mathlib.Core.List.{List};
+ghost use Rattle.chip.specs.Change.{changedBy, Tells};
 ghost use Rattle.chip.specs.Report.{dotsOutcome};
 ghost use Rattle.chip.specs.Dots.{afterDots, ran};
 ghost use Rattle.chip.specs.Inner.{behind, WalksOn};
 use crate::pass::Pass;
 use crate::report::DotsAnswer;
 use crate::report::Dotted;
+use crate::report::Ran;
 use crate::report::Report;
 use crate::state::State;
 use chip_timing::Walk;
@@ -53,35 +55,41 @@ impl State {
         pass
     }
 
-    // So many dots.
-    pub fn dots(self, store: &mut [u32], count: u32) -> Dotted
-        ensures { λ r. ⌜ ((r .state, now (store .exit)), dotsOutcome (r .answer)) ≡ ran (self, now (store .entry)) count ⌝ }
+    // What so many dots change.
+    pub fn run(self, store: &mut [u32], count: u32) -> Ran
+        ensures { λ r. ⌜ (((changedBy self (r .change), now (store .exit)), dotsOutcome (r .answer)) ≡ ran (self, now (store .entry)) count) × Tells (self .queue) (r .change .queue) ⌝ }
     {
         let allowed = self.call_check(store.len());
         if let Answer::Refused(refusal) = allowed {
-            return Dotted {
-                state: self,
+            return Ran {
+                change: self.unchanged(),
                 answer: DotsAnswer::Refused(refusal),
             };
         }
         if count == 0 {
-            return Dotted {
-                state: self,
+            return Ran {
+                change: self.unchanged(),
                 answer: DotsAnswer::Reported(Report::Nothing),
             };
         }
         let before = self.pass(count - 1);
         let signals = self.signals(before.at);
         let pass = self.one_more(before, signals.blank);
-        let answer = DotsAnswer::Reported(Report::Last(signals));
-        if pass.taken == 0 {
-            return Dotted {
-                state: self.at_position(pass.at),
-                answer,
-            };
+        Ran {
+            change: self.passing(store, pass),
+            answer: DotsAnswer::Reported(Report::Last(signals)),
         }
+    }
+
+    // So many dots.
+    pub fn dots(self, store: &mut [u32], count: u32) -> Dotted
+        ensures { λ r. ⌜ ((r .state, now (store .exit)), dotsOutcome (r .answer)) ≡ ran (self, now (store .entry)) count ⌝ }
+    {
+        let ran = self.run(store, count);
+        let change = ran.change;
+        let answer = ran.answer;
         Dotted {
-            state: self.after(store, pass),
+            state: self.changed(change),
             answer,
         }
     }

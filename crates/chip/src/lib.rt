@@ -1,4 +1,5 @@
 // The chip: its state, register writes and reads, and dots.
+pub mod change;
 pub mod dot;
 pub mod dots;
 mod pass;

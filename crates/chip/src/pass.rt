@@ -1,5 +1,5 @@
 // How far some dots come, which their writes do not change, and what that leaves.
-ghost use Prim.Native.Nat.{ℕ, _≤_, _<_};
+ghost use Prim.Native.Nat.{ℕ, _≤_};
 ghost use mathlib.Core.Path.{_≡_};
 ghost use mathlib.Core.Bool.{true, _&&_};
 ghost use mathlib.Core.List.{List};
@@ -7,10 +7,15 @@ ghost use lib.Dec.{ltb};
 ghost use lib.ListN.{length};
 ghost use Rattle.chip_timing.specs.Signals.{signalsAt};
 ghost use Rattle.chip_registers.specs.Store.{storeLength};
-ghost use Rattle.chip.specs.State.{goodState, windowsOf, withPosition};
-ghost use Rattle.chip.specs.Dot.{oldestApplied, afterDot};
-ghost use Rattle.chip.specs.Inner.{behind};
+ghost use Rattle.chip_queue.specs.Good.{goodQueue};
+ghost use Rattle.chip.specs.State.{goodState, windowsOf};
+ghost use Rattle.chip.specs.Change.{changedBy, Tells};
+ghost use Rattle.chip.specs.Dot.{afterDot};
+ghost use Rattle.chip.specs.Inner.{storedBy, behind};
+use crate::change::Change;
+use crate::change::QueueChange;
 use crate::state::State;
+use chip_queue::Queue;
 use chip_timing::Position;
 
 // How far some dots come.
@@ -26,6 +31,21 @@ fn drains(blank: bool, waiting: u32) -> bool
     ensures { λ r. ⌜ r ≡ (blank && ltb 0 waiting) ⌝ }
 {
     if blank { 0 < waiting } else { false }
+}
+
+// So many of the oldest writes go into their places in the store.
+fn apply(queue: Queue, store: &mut [u32], taken: u32)
+    requires { ⌜ (goodQueue queue ≡ true) × (taken ≤ queue .waiting) × (length (now store) ≡ storeLength) ⌝ }
+    ensures { λ _. ⌜ now (store .exit) ≡ storedBy taken queue (now (store .entry)) ⌝ }
+{
+    let count = taken as usize;
+    let mut i: usize = 0;
+    while i < count {
+        let write = queue.slots[i];
+        let index = write.target();
+        store[index] = write.value;
+        i += 1;
+    }
 }
 
 impl State {
@@ -48,38 +68,27 @@ impl State {
         }
     }
 
-    // The state at another position.
-    pub(crate) fn at_position(mut self, at: Position) -> Self
-        ensures { λ r. ⌜ r ≡ withPosition self at ⌝ }
-    {
-        self.at = at;
-        self
-    }
-
-    // The oldest write goes from the queue into its place in the store.
-    fn applied(mut self, store: &mut [u32]) -> Self
-        requires { ⌜ (goodState self ≡ true) × (0 < self .queue .waiting) × (length (now store) ≡ storeLength) ⌝ }
-        ensures { λ r. ⌜ (r, now (store .exit)) ≡ oldestApplied (self, now (store .entry)) ⌝ }
-    {
-        let queue = self.queue;
-        let oldest = queue.oldest();
-        let index = oldest.target();
-        store[index] = oldest.value;
-        self.queue = queue.popped();
-        self
-    }
-
-    // What dots that come so far leave.
-    pub(crate) fn after(self, store: &mut [u32], pass: Pass) -> Self
+    // What dots that come so far change, when the writes that they take are in the store.
+    pub(crate) fn passing(self, store: &mut [u32], pass: Pass) -> Change
         requires { ⌜ (goodState self ≡ true) × (pass .taken ≤ self .queue .waiting) × (length (now store) ≡ storeLength) ⌝ }
-        ensures { λ r. ⌜ (r, now (store .exit)) ≡ behind (self, now (store .entry)) pass ⌝ }
+        ensures { λ r. ⌜ ((changedBy self r, now (store .exit)) ≡ behind (self, now (store .entry)) pass) × Tells (self .queue) (r .queue) ⌝ }
     {
-        let mut state = self;
-        let mut i = 0;
-        while i < pass.taken {
-            state = state.applied(store);
-            i += 1;
+        let control = self.control;
+        let at = pass.at;
+        let taken = pass.taken;
+        if taken == 0 {
+            return Change {
+                control,
+                at,
+                queue: QueueChange::Same,
+            };
         }
-        state.at_position(pass.at)
+        let queue = self.queue;
+        apply(queue, store, taken);
+        Change {
+            control,
+            at,
+            queue: QueueChange::Drained(taken),
+        }
     }
 }

@@ -1,4 +1,5 @@
 // What dots answer, one or many.
+use crate::change::Change;
 use crate::state::State;
 use chip_timing::Signals;
 use refusals::Refusal;
@@ -23,6 +24,14 @@ pub enum DotsAnswer {
 pub struct Dotted {
     // the state after the last dot
     pub state: State,
+    // what the dots answer
+    pub answer: DotsAnswer,
+}
+
+// What dots change of the state, and their answer.
+pub struct Ran {
+    // what they change
+    pub change: Change,
     // what the dots answer
     pub answer: DotsAnswer,
 }

@@ -1,17 +1,19 @@
 // Register writes.
 ghost use Prim.Native.Nat.{_<_};
 ghost use mathlib.Core.Path.{_≡_};
-ghost use mathlib.Core.Bool.{false};
+ghost use mathlib.Core.Bool.{false, _&&_};
 ghost use lib.ListN.{length};
 ghost use Rattle.refusals.specs.Refusal.{answerOutcome};
 ghost use Rattle.chip_registers.specs.Blocks.{count};
 ghost use Rattle.chip_registers.specs.Named.{named};
 ghost use Rattle.chip_registers.specs.Store.{storeLength};
-ghost use Rattle.chip_registers.specs.Access.{readOnly};
-ghost use Rattle.chip_queue.specs.Queue.{pushed};
-ghost use Rattle.chip.specs.State.{withWord, withQueue};
+ghost use Rattle.chip_registers.specs.Access.{readOnly, waits};
+ghost use Rattle.chip_queue.specs.Queue.{full};
+ghost use Rattle.chip.specs.Change.{changedBy, Tells};
 ghost use Rattle.chip.specs.Write.{put, written};
 ghost use Rattle.chip.specs.Inner.{writeTest, Judged};
+use crate::change::Change;
+use crate::change::QueueChange;
 use crate::state::State;
 use chip_queue::Waiting;
 use chip_registers::Named;
@@ -24,6 +26,14 @@ use refusals::Refusal;
 pub struct Written {
     // the state after the write; as it was where that is refused
     pub state: State,
+    // whether the write was done
+    pub answer: Answer,
+}
+
+// What a write changes of the state, and its answer.
+pub struct Wrote {
+    // what it changes
+    pub change: Change,
     // whether the write was done
     pub answer: Answer,
 }
@@ -63,42 +73,54 @@ fn judged(allowed: Answer, address: u32, value: u32, full: bool) -> Verdict
 }
 
 impl State {
-    // A value goes into a control word.
-    fn with_word(mut self, word: usize, value: u32) -> Self
-        requires { ⌜ word < 9 ⌝ }
-        ensures { λ r. ⌜ r ≡ withWord self word value ⌝ }
-    {
-        let mut control = self.control;
-        control[word] = value;
-        self.control = control;
-        self
-    }
-
-    // A write joins the queue.
-    fn with_waiting(mut self, write: Waiting) -> Self
-        ensures { λ r. ⌜ r ≡ withQueue self (pushed (self .queue) write) ⌝ }
-    {
-        let queue = self.queue;
-        self.queue = queue.pushed(write);
-        self
-    }
-
-    // A write joins the queue where it waits; else its value goes into the store or into a control word.
-    fn put(self, store: &mut [u32], register: Register, value: u32) -> Self
-        requires { ⌜ (readOnly register ≡ false) × (register .word < count (register .block)) × (length (now store) ≡ storeLength) ⌝ }
-        ensures { λ r. ⌜ (r, now (store .exit)) ≡ put (self, now (store .entry)) register value ⌝ }
+    // What a write to a register changes: it joins the queue where it waits; else its value goes into the store or into a control word.
+    fn put(self, store: &mut [u32], register: Register, value: u32) -> Change
+        requires { ⌜ (readOnly register ≡ false) × (register .word < count (register .block)) × (length (now store) ≡ storeLength) × ((waits register && full (self .queue)) ≡ false) ⌝ }
+        ensures { λ r. ⌜ ((changedBy self r, now (store .exit)) ≡ put (self, now (store .entry)) register value) × Tells (self .queue) (r .queue) ⌝ }
     {
         let word = register.word;
+        let mut control = self.control;
+        let at = self.at;
         if register.waits() {
-            return self.with_waiting(Waiting { word, value });
+            return Change {
+                control,
+                at,
+                queue: QueueChange::Joined(Waiting { word, value }),
+            };
         }
         let place = register.store_place();
         match place {
             StorePlace::At(index) => {
                 store[index] = value;
-                self
+                self.unchanged()
             }
-            StorePlace::Nowhere => self.with_word(word as usize, value),
+            StorePlace::Nowhere => {
+                let index = word as usize;
+                control[index] = value;
+                Change {
+                    control,
+                    at,
+                    queue: QueueChange::Same,
+                }
+            }
+        }
+    }
+
+    // What one register write changes.
+    pub fn store_write(self, store: &mut [u32], address: u32, value: u32) -> Wrote
+        ensures { λ r. ⌜ (((changedBy self (r .change), now (store .exit)), answerOutcome (r .answer)) ≡ written (self, now (store .entry)) address value) × Tells (self .queue) (r .change .queue) ⌝ }
+    {
+        let queue = self.queue;
+        let verdict = judged(self.call_check(store.len()), address, value, queue.full());
+        match verdict {
+            Verdict::To(register) => Wrote {
+                change: self.put(store, register, value),
+                answer: Answer::Done,
+            },
+            Verdict::Refused(refusal) => Wrote {
+                change: self.unchanged(),
+                answer: Answer::Refused(refusal),
+            },
         }
     }
 
@@ -106,17 +128,12 @@ impl State {
     pub fn write(self, store: &mut [u32], address: u32, value: u32) -> Written
         ensures { λ r. ⌜ ((r .state, now (store .exit)), answerOutcome (r .answer)) ≡ written (self, now (store .entry)) address value ⌝ }
     {
-        let queue = self.queue;
-        let verdict = judged(self.call_check(store.len()), address, value, queue.full());
-        match verdict {
-            Verdict::To(register) => Written {
-                state: self.put(store, register, value),
-                answer: Answer::Done,
-            },
-            Verdict::Refused(refusal) => Written {
-                state: self,
-                answer: Answer::Refused(refusal),
-            },
+        let wrote = self.store_write(store, address, value);
+        let change = wrote.change;
+        let answer = wrote.answer;
+        Written {
+            state: self.changed(change),
+            answer,
         }
     }
 }

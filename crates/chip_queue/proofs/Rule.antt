@@ -14,11 +14,11 @@ use Rattle.chip_registers.specs.Store.{storePlace}
 use Rattle.chip_registers.specs.declared.Block.the-variants.{ColourMap}
 use Rattle.chip_registers.specs.declared.StorePlace.the-variants.{At}
 use Rattle.chip_queue.specs.Waiting.{registerOf, goodWrite, target}
-use Rattle.chip_queue.specs.Queue.{zeroSlot, waitingIn, oldest, pushed, popped, HasSlots}
+use Rattle.chip_queue.specs.Queue.{zeroSlot, waitingIn, pushed, popped, HasSlots}
 use Rattle.chip_queue.specs.Good.{allGood, goodQueue}
 use Rattle.chip_queue.specs.declared.Waiting.{Waiting}
 use Rattle.chip_queue.specs.declared.Queue.{Queue}
-use Rattle.chip_queue.proofs.Order.{pushed-is, waiting-pushed, waiting-popped, waiting-front}
+use Rattle.chip_queue.proofs.Order.{pushed-is, waiting-pushed, waiting-popped}
 
 -- of two tests that hold together, each
 pub both : (a b : Bool) → (a && b) ≡ true → (a ≡ true) × (b ≡ true)
@@ -107,10 +107,3 @@ module _ (queue : Queue) (sized : HasSlots queue) (good : goodQueue queue ≡ tr
       let said = good-says queue good in
       says-good (popped queue) (omega (arith, said .0))
       (ap allGood (waiting-popped queue sized (said .0)) ∙ all-but-first (waitingIn queue) (said .1))
-
-  -- the oldest of those that wait is good
-  pub good-oldest : 0 < queue .waiting → goodWrite (oldest queue) ≡ true
-  good-oldest some =
-      both (goodWrite (oldest queue)) (allGood (drop 1 (waitingIn queue)))
-      (sym (ap allGood (waiting-front queue sized some)) ∙ good-says queue good .1)
-      .0

@@ -1,11 +1,12 @@
 -- The loop that moves the slots up by one. Assumes nothing.
 use Prim.Native.Nat.{ℕ, zero, suc, _+_, _-_, _<_}
-use mathlib.Core.Path.{_≡_, refl, ap}
+use mathlib.Core.Path.{_≡_, refl, ap, sym, _∙_}
 use mathlib.Core.List.{List, [], _∷_, _++_}
+use native.Mathlib.Nat.{zero-add}
 use native.Mathlib.Numerals.{add-one}
 use native.Mathlib.Omega.{arith}
 use lib.ListN.{length, getD, set, drop}
-use Rattle.chip_queue.specs.Queue.{zeroSlot, popped}
+use Rattle.chip_queue.specs.Queue.{zeroSlot, oldest, popped, without}
 use Rattle.chip_queue.specs.declared.Waiting.{Waiting}
 use Rattle.chip_queue.specs.declared.Queue.{Queue}
 
@@ -54,3 +55,32 @@ module _ (queue now : Queue) (i : ℕ) (here : now ≡ slid queue i) where
   slid-all e h =
       rw (here, e)
       (ap (λ (slots : List Waiting). record { waiting = queue .waiting - 1; slots = slots }) (slide-end 63 (queue .slots) zeroSlot (omega arith)))
+
+-- where all move up by one, a slot holds what stood behind it
+moved-up : (slots : List Waiting) (i : ℕ) → getD (drop 1 slots ++ (zeroSlot ∷ [])) i zeroSlot ≡ getD slots (suc i) zeroSlot
+moved-up [] zero = refl
+moved-up [] (suc i) = refl
+moved-up (a ∷ []) zero = refl
+moved-up (a ∷ []) (suc i) = refl
+moved-up (a ∷ b ∷ others) zero = refl
+moved-up (a ∷ b ∷ others) (suc i) = moved-up (b ∷ others) i
+
+-- without some of the oldest, a slot holds what stood as many behind it
+slot-without : (queue : Queue) (count i : ℕ) → getD (without queue count .slots) i zeroSlot ≡ getD (queue .slots) (count + i) zeroSlot
+unfolding without
+slot-without queue zero i = rw zero-add refl
+slot-without queue (suc count) i =
+    let on : count + suc i ≡ suc count + i = omega arith in
+    moved-up (without queue count .slots) i ∙ slot-without queue count (suc i) ∙ ap (λ (at : ℕ). getD (queue .slots) at zeroSlot) on
+
+-- the write in a slot is the oldest without those before it
+pub slot-oldest : (queue : Queue) (i : ℕ) → getD (queue .slots) i zeroSlot ≡ oldest (without queue i)
+slot-oldest queue i =
+    let here : i + 0 ≡ i = omega arith in
+    sym (slot-without queue i 0 ∙ ap (λ (at : ℕ). getD (queue .slots) at zeroSlot) here)
+
+-- without some of the oldest, as many fewer wait
+pub waiting-without : (queue : Queue) (count : ℕ) → without queue count .waiting ≡ queue .waiting - count
+unfolding without
+waiting-without queue zero = omega arith
+waiting-without queue (suc count) = let before = waiting-without queue count in omega arith

@@ -6,9 +6,9 @@ use Rattle.chip_queue.proofs.Waiting.target.Reads as target
 use Rattle.chip_queue.proofs.Queue.new.Reads as new
 use Rattle.chip_queue.proofs.Queue.room.Reads as room
 use Rattle.chip_queue.proofs.Queue.full.Reads as full
-use Rattle.chip_queue.proofs.Queue.oldest.Reads as oldest
 use Rattle.chip_queue.proofs.Queue.pushed.Reads as pushed
 use Rattle.chip_queue.proofs.Queue.popped.Reads as popped
+use Rattle.chip_queue.proofs.Queue.without.Reads as without
 use Rattle.chip_queue.proofs.Queue.good.Reads as good
 
 -- one answer says whether a write may wait
@@ -31,10 +31,6 @@ room-unique = by-equation _ _
 pub full-unique : OneAnswer full.Post
 full-unique = by-equation _ _
 
--- one answer says the oldest write
-pub oldest-unique : OneAnswer oldest.Post
-oldest-unique = by-equation _ _
-
 -- one answer says the queue with one more write
 pub pushed-unique : OneAnswer pushed.Post
 pushed-unique = by-equation _ _
@@ -42,6 +38,10 @@ pushed-unique = by-equation _ _
 -- one answer says the queue without its oldest write
 pub popped-unique : OneAnswer popped.Post
 popped-unique = by-equation _ _
+
+-- one answer says the queue without so many of the oldest writes
+pub without-unique : OneAnswer without.Post
+without-unique = by-equation _ _
 
 -- one answer says whether a queue keeps the rule
 pub queue-good-unique : OneAnswer good.Post

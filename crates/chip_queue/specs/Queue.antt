@@ -1,5 +1,5 @@
 -- The queue: of 64 slots the first ones hold the colour writes that wait, the oldest in slot 0.
-use Prim.Native.Nat.{ℕ, _+_, _-_}
+use Prim.Native.Nat.{ℕ, zero, suc, _+_, _-_}
 use mathlib.Core.Path.{_≡_}
 use mathlib.Core.Bool.{Bool, cond}
 use mathlib.Core.List.{List, [], _∷_, _++_}
@@ -49,3 +49,8 @@ pushed queue write =
 -- the oldest leaves, every other slot moves up by one, and the last becomes zero (CHIP 3.3, 3.6)
 abbrev pub popped : Queue → Queue
 popped queue = record { waiting = queue .waiting - 1; slots = drop 1 (queue .slots) ++ (zeroSlot ∷ []) }
+
+-- so many of the oldest leave, one after the other (CHIP 3.3, 3.6)
+unfoldable pub without : Queue → ℕ → Queue
+without queue zero = queue
+without queue (suc count) = popped (without queue count)

@@ -2,7 +2,7 @@
 ghost use Prim.Native.Nat.{_-_};
 ghost use mathlib.Core.Path.{_≡_};
 ghost use Rattle.chip_queue.specs.Waiting.{goodWrite, target};
-ghost use Rattle.chip_queue.specs.Queue.{emptyQueue, room, full, oldest, pushed, popped};
+ghost use Rattle.chip_queue.specs.Queue.{emptyQueue, room, full, pushed, popped, without};
 ghost use Rattle.chip_queue.specs.Good.{goodQueue};
 use chip_registers::COLOUR_BITS;
 use chip_registers::COLOUR_MAP_START;
@@ -94,13 +94,6 @@ impl Queue {
         MOST_WAITING <= self.waiting
     }
 
-    // The oldest write.
-    pub fn oldest(self) -> Waiting
-        ensures { λ r. ⌜ r ≡ oldest self ⌝ }
-    {
-        self.slots[0]
-    }
-
     // With one more write at the end, where there is room.
     pub fn pushed(mut self, write: Waiting) -> Self
         ensures { λ r. ⌜ r ≡ pushed self write ⌝ }
@@ -126,6 +119,19 @@ impl Queue {
         self.slots[LAST_SLOT] = Waiting { word: 0, value: 0 };
         self.waiting = one_less(self.waiting);
         self
+    }
+
+    // Without so many of the oldest writes.
+    pub fn without(self, count: u32) -> Self
+        ensures { λ r. ⌜ r ≡ without self count ⌝ }
+    {
+        let mut queue = self;
+        let mut i = 0;
+        while i < count {
+            queue = queue.popped();
+            i += 1;
+        }
+        queue
     }
 
     // Whether at most 64 wait, and every write that waits is good. Slots beyond them do not count.

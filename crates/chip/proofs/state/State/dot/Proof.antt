@@ -1,92 +1,19 @@
--- `chip::state::State::dot` meets its contract: 11, then 5, else what a dot does and reports. Assumes nothing.
-use mathlib.Core.Path.{_≡_, ap, sym, _∙_}
+-- `chip::state::State::dot` meets its contract: the state after what the dot changes. Assumes nothing.
 use borrow.Author.Needs.{needs}
-use Rattle.rules.specs.Rule.{ok}
-use Rattle.refusals.specs.Refusal.{answerOutcome}
-use Rattle.chip_timing.specs.declared.Signals.{Signals}
-use Rattle.chip.specs.Call.{Chip}
-use Rattle.chip.specs.declared.report.Report.the-variants.{Last}
-use Rattle.chip.proofs.CallCheck.{allowed-says}
-use Rattle.chip.specs.Dot.{afterDot, dotted}
-use Rattle.chip.specs.Inner.{appliedBy}
-use Rattle.chip.proofs.Passes.{none-applied}
-use Rattle.chip.proofs.Runs.{dot-unfit, dot-done}
 use Rattle.chip.proofs.state.State.dot.Statement.{statement}
 use Rattle.chip.proofs.state.State.dot.Tie as tie
 
--- a chip that is what one dot more leaves, with the signals found, is what the dot leaves and reports
-made : (c : tie.After-one-more) {after : Chip}
-    → let given = c .before .before .before .before .before .before .before .args in
-    after ≡ afterDot (given .self, given .store .now) → (after, ok (Last (c .before .signals .result))) ≡ dotted (given .self, given .store .now)
-made c {after} is =
-    let told = c .before .before .before in
-    let tested = told .before .before in
-    let given = tested .before .before .args in
-    let chip : Chip = (given .self, given .store .now) in
-    ap (λ (after : Chip). (after, ok (Last (c .before .signals .result)))) is
-    ∙ ap (λ (signals : Signals). (afterDot chip, ok (Last signals))) (c .before .signals .ensures)
-    ∙ sym (dot-done chip (sym (tested .call-check .ensures) ∙ ap answerOutcome (told .enum-told .given .1)))
+one-requires : tie.Need-one-requires
+one-requires c κs = search needs
 
-call-check-requires : tie.Need-call-check-requires
-call-check-requires c κs = search needs
-
-enum-known-allowed : tie.Need-enum-known-allowed
-enum-known-allowed c = search needs
-
-returns : tie.Need-returns
-returns c =
-    let f = c .before .before .before in
-    sym (dot-unfit (f .before .before .args .self, f .before .before .args .store .now) _ (sym (f .call-check .ensures) ∙ ap answerOutcome (c .before .allowed .given .1)))
-
-enum-told : tie.Need-enum-told
-enum-told c = search needs
-
-signals-requires : tie.Need-signals-requires
-signals-requires c κs = search needs
-
-one-more-requires : tie.Need-one-more-requires
-one-more-requires c κs = (search needs, sym (ap (λ (signals : Signals). signals .blank) (c .signals .ensures)))
-
-at-position-requires : tie.Need-at-position-requires
-at-position-requires c κs = search needs
-
-returns-2 : tie.Need-returns-2
-unfolding appliedBy
-returns-2 c =
-    let one = c .before .before .before in
-    let given = one .before .before .before .before .before .before .before .args in
-    made one (rw (c .at-position .ensures) (none-applied (given .self) (given .store .now) (one .one-more .result) (c .before .if1 .taken) ∙ one .one-more .ensures .1 (given .store .now)))
-
-after-requires : tie.Need-after-requires
-after-requires c κs =
-    let one = c .before .before .before in
-    let told = one .before .before .before in
-    let fine = allowed-says _ _ (sym (told .before .before .call-check .ensures) ∙ ap answerOutcome (told .enum-told .given .1)) in
-    (fine .0, one .one-more .ensures .0, fine .1)
+changed-requires : tie.Need-changed-requires
+changed-requires c κs = search needs
 
 same-length : tie.Need-same-length
 same-length c = search needs
 
-returns-3 : tie.Need-returns-3
-unfolding appliedBy
-returns-3 c =
-    let done = c .before .before in
-    let one = done .before .before .before .before in
-    let given = one .before .before .before .before .before .before .before .args in
-    made one (done .after .ensures ∙ one .one-more .ensures .1 (given .store .now))
+returns : tie.Need-returns
+returns c = rw (c .changed .ensures) (c .before .before .before .before .one .ensures)
 
 pub dot-spec : {M : Type 1} → statement M
-dot-spec =
-    tie.close
-    (tie.spec
-    call-check-requires
-    enum-known-allowed
-    returns
-    enum-told
-    signals-requires
-    one-more-requires
-    at-position-requires
-    returns-2
-    after-requires
-    same-length
-    returns-3)
+dot-spec = tie.close (tie.spec one-requires changed-requires same-length returns)
