@@ -4,16 +4,22 @@ use mathlib.Core.List.{List}
 use lib.ListN.{length}
 use Rattle.rules.specs.Rule.{Outcome, ok}
 use Rattle.rules.specs.Faults.{Numbered}
+use Rattle.chip.specs.Change.{changedBy}
 use Rattle.chip.specs.Call.{Chip}
 use Rattle.chip.specs.declared.state.State.{State}
+use Rattle.chip.specs.declared.change.Change.{Change}
 use Rattle.session_records.specs.declared.record.Record.{Record}
 use Rattle.session_records.specs.declared.record.Record.the-variants.{End, Write, Dots, Table, Normal, Overlay, Line}
 use Rattle.session_listing.specs.Text.{EntrySays}
+use Rattle.session_listing.specs.declared.entry.ListingEntry.{ListingEntry}
 use Rattle.session_answers.specs.Status.{Status, listed}
+use Rattle.session_answers.specs.declared.StepAnswer.the-variants.{Listed}
 use Rattle.session_rooms.specs.declared.Counts.{Counts}
 use Rattle.session.specs.Record.{entryOf, acted}
 use Rattle.session.specs.Lent.{Rooms, heldIn, leftIn}
+use Rattle.session.specs.Done.{sessionWith}
 use Rattle.session.specs.declared.session.Session.{Session}
+use Rattle.session.specs.declared.acts.Acted.{Acted}
 
 -- a session with this state in place of its own
 abbrev pub withState : Session → State → Session
@@ -27,9 +33,13 @@ withCounts session counts = record { state = session .state; counts = counts; re
 abbrev pub counted : Session → Session
 counted session = record { state = session .state; counts = session .counts; records = session .records + 1 }
 
--- after one more record, which lists this entry
-abbrev pub listedIn : Session → EntrySays → Session × Outcome Numbered Status
-listedIn session entry = (counted session, ok (listed entry))
+-- the session after a record, by the state before it
+abbrev pub leftBy : State → Acted → Session
+leftBy state acted = sessionWith (changedBy state (acted .change)) (acted .counts) (acted .records)
+
+-- after one more record, which changed this and lists this entry
+abbrev pub listedAs : Change → Counts → ℕ → ListingEntry → Acted
+listedAs change counts records entry = record { change = change; counts = counts; records = records + 1; answer = Listed entry }
 
 -- after a record that asked the chip: what a call left and answered becomes the session's, with this entry where it is done
 abbrev pub askedIn : {A : Type 0} → Session → EntrySays → Chip × Outcome Numbered A → (Session × List ℕ) × Outcome Numbered Status

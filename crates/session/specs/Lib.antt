@@ -3,4 +3,5 @@ pub mod Record
 pub mod Listing
 pub mod Lent
 pub mod Step
+pub mod Done
 pub mod Inner

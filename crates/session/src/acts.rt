@@ -3,6 +3,7 @@ ghost use Prim.Native.Nat.{_<_};
 ghost use mathlib.Core.Path.{_≡_};
 ghost use lib.ListN.{take};
 ghost use Rattle.refusals.specs.Refusal.{answerOutcome};
+ghost use Rattle.chip.specs.Change.{Tells};
 ghost use Rattle.chip.specs.Write.{written};
 ghost use Rattle.chip.specs.Dots.{ran};
 ghost use Rattle.chip.specs.Report.{dotsOutcome};
@@ -16,9 +17,10 @@ ghost use Rattle.line.specs.Request.{requestOf};
 ghost use Rattle.line.specs.Drawn.{drawn};
 ghost use Rattle.session.specs.Record.{entryOf, atPosition};
 ghost use Rattle.session.specs.Lent.{roomsOf};
-ghost use Rattle.session.specs.Inner.{withState, withCounts, listedIn, askedIn, HeldWithin, BodyFits, actedIn};
+ghost use Rattle.session.specs.Done.{sessionWith};
+ghost use Rattle.session.specs.Inner.{leftBy, listedAs, askedIn, HeldWithin, BodyFits, actedIn};
 use crate::keep::keep;
-use crate::session::Session;
+use chip::change::Change;
 use chip::state::State;
 use chip_timing::Position;
 use line::request::Request;
@@ -29,10 +31,14 @@ use session_listing::entry::ListingEntry;
 use session_records::record::Record;
 use session_rooms::Counts;
 
-// What a record leaves and answers.
+// What a record leaves besides the lent memory, and what it answers.
 pub struct Acted {
-    // The session after it.
-    pub session: Session,
+    // What becomes of the chip's state.
+    pub change: Change,
+    // How many bytes of table and rows are there.
+    pub counts: Counts,
+    // How many records stood before the next one.
+    pub records: u32,
     // What it answers.
     pub answer: StepAnswer,
 }
@@ -66,143 +72,145 @@ fn width(state: State) -> usize
     controls.width as usize
 }
 
-impl Session {
-    // With this state.
-    fn with_state(mut self, state: State) -> Self
-        ensures { λ r. ⌜ r ≡ withState self state ⌝ }
-    {
-        self.state = state;
-        self
+// After one more record, which changed this and lists this entry.
+fn listed(change: Change, counts: Counts, records: u32, entry: ListingEntry) -> Acted
+    requires { ⌜ records < mostRecords ⌝ }
+    ensures { λ r. ⌜ r ≡ listedAs change counts records entry ⌝ }
+{
+    Acted {
+        change,
+        counts,
+        records: records + 1,
+        answer: StepAnswer::Listed(entry),
     }
+}
 
-    // After one more record, which lists this entry.
-    fn listed(mut self, entry: ListingEntry) -> Acted
-        requires { ⌜ self .records < mostRecords ⌝ }
-        ensures { λ r. ⌜ (r .session, stepOutcome (r .answer)) ≡ listedIn self (entrySays entry) ⌝ }
-    {
-        self.records += 1;
-        Acted {
-            session: self,
-            answer: StepAnswer::Listed(entry),
-        }
-    }
+// A write.
+fn write(
+    state: State,
+    counts: Counts,
+    records: u32,
+    store: &mut [u32],
+    address: u32,
+    value: u32,
+) -> Acted
+    requires { ⌜ records < mostRecords ⌝ }
+    ensures { λ r. ⌜ (((leftBy state r, now (store .exit)), stepOutcome (r .answer)) ≡ askedIn (sessionWith state counts records) saysOk (written (state, now (store .entry)) address value)) × Tells (state .queue) (r .change .queue) ⌝ }
+{
+    let wrote = state.store_write(store, address, value);
+    let change = wrote.change;
+    let answer = wrote.answer;
+    listed(change, counts, records, entry_of(answer, ListingEntry::Ok))
+}
 
-    // After one more record, which left so many bytes of table and rows.
-    fn holding(mut self, counts: Counts) -> Acted
-        requires { ⌜ self .records < mostRecords ⌝ }
-        ensures { λ r. ⌜ (r .session, stepOutcome (r .answer)) ≡ listedIn (withCounts self counts) saysOk ⌝ }
-    {
-        self.counts = counts;
-        self.listed(ListingEntry::Ok)
-    }
+// Some dots.
+fn dots(state: State, counts: Counts, records: u32, store: &mut [u32], count: u32) -> Acted
+    requires { ⌜ records < mostRecords ⌝ }
+    ensures { λ r. ⌜ (((leftBy state r, now (store .exit)), stepOutcome (r .answer)) ≡ askedIn (sessionWith state counts records) (atPosition (ran (state, now (store .entry)) count .0 .0 .at)) (ran (state, now (store .entry)) count)) × Tells (state .queue) (r .change .queue) ⌝ }
+{
+    let ran = state.run(store, count);
+    let change = ran.change;
+    let answer = ran.answer;
+    let at = change.at;
+    listed(change, counts, records, entry_of_dots(answer, at))
+}
 
-    // A write.
-    fn write(self, store: &mut [u32], address: u32, value: u32) -> Acted
-        requires { ⌜ self .records < mostRecords ⌝ }
-        ensures { λ r. ⌜ ((r .session, now (store .exit)), stepOutcome (r .answer)) ≡ askedIn self saysOk (written (self .state, now (store .entry)) address value) ⌝ }
-    {
-        let state = self.state;
-        let written = state.write(store, address, value);
-        let next = written.state;
-        let answer = written.answer;
-        self.with_state(next)
-            .listed(entry_of(answer, ListingEntry::Ok))
-    }
-
-    // Some dots.
-    fn dots(self, store: &mut [u32], count: u32) -> Acted
-        requires { ⌜ self .records < mostRecords ⌝ }
-        ensures { λ r. ⌜ ((r .session, now (store .exit)), stepOutcome (r .answer)) ≡ askedIn self (atPosition (ran (self .state, now (store .entry)) count .0 .0 .at)) (ran (self .state, now (store .entry)) count) ⌝ }
-    {
-        let state = self.state;
-        let ran = state.dots(store, count);
-        let next = ran.state;
-        let answer = ran.answer;
-        let at = next.at;
-        self.with_state(next).listed(entry_of_dots(answer, at))
-    }
-
-    // A line.
-    fn line(
-        self,
-        y: u32,
-        store: &[u32],
-        table: &[u8],
-        normal: &[u8],
-        overlay: &[u8],
-        output: &mut [u32],
-    ) -> Acted
-        requires { ⌜ self .records < mostRecords ⌝ }
-        requires { ⌜ HeldWithin self (roomsOf (now store) (now table) (now normal) (now overlay) (now output)) ⌝ }
-        ensures { λ r. ⌜ ((r .session, now (output .exit)), stepOutcome (r .answer)) ≡ askedIn self (saysLine y (controlsOf (self .state .control) .width)) (drawn (requestOf (self .state) y) (lentOf (now (store .entry)) (take (self .counts .table) (now (table .entry))) (take (self .counts .normal) (now (normal .entry))) (take (self .counts .overlay) (now (overlay .entry)))) (now (output .entry))) ⌝ }
-    {
-        let state = self.state;
-        let counts = self.counts;
-        let table_end = counts.table;
-        let normal_end = counts.normal;
-        let overlay_end = counts.overlay;
-        let request = Request { state, y };
-        let drawn = line::draw::draw(
-            request,
-            store,
-            &table[0..table_end],
-            &normal[0..normal_end],
-            &overlay[0..overlay_end],
-            output,
-        );
-        let next = drawn.state;
-        let answer = drawn.answer;
-        self.with_state(next).listed(entry_of(
+// A line.
+fn line(
+    state: State,
+    counts: Counts,
+    records: u32,
+    y: u32,
+    store: &[u32],
+    table: &[u8],
+    normal: &[u8],
+    overlay: &[u8],
+    output: &mut [u32],
+) -> Acted
+    requires { ⌜ records < mostRecords ⌝ }
+    requires { ⌜ HeldWithin (sessionWith state counts records) (roomsOf (now store) (now table) (now normal) (now overlay) (now output)) ⌝ }
+    ensures { λ r. ⌜ (((leftBy state r, now (output .exit)), stepOutcome (r .answer)) ≡ askedIn (sessionWith state counts records) (saysLine y (controlsOf (state .control) .width)) (drawn (requestOf state y) (lentOf (now (store .entry)) (take (counts .table) (now (table .entry))) (take (counts .normal) (now (normal .entry))) (take (counts .overlay) (now (overlay .entry)))) (now (output .entry)))) × Tells (state .queue) (r .change .queue) ⌝ }
+{
+    let table_end = counts.table;
+    let normal_end = counts.normal;
+    let overlay_end = counts.overlay;
+    let request = Request { state, y };
+    let drawn = line::draw::draw(
+        request,
+        store,
+        &table[0..table_end],
+        &normal[0..normal_end],
+        &overlay[0..overlay_end],
+        output,
+    );
+    let answer = drawn.answer;
+    listed(
+        state.unchanged(),
+        counts,
+        records,
+        entry_of(
             answer,
             ListingEntry::Line {
                 y,
                 width: width(state),
             },
-        ))
-    }
+        ),
+    )
+}
 
-    // A record with this body.
-    pub(crate) fn act(
-        self,
-        which: Record,
-        body: &[u8],
-        store: &mut [u32],
-        table: &mut [u8],
-        normal: &mut [u8],
-        overlay: &mut [u8],
-        output: &mut [u32],
-    ) -> Acted
-        requires { ⌜ self .records < mostRecords ⌝ }
-        requires { ⌜ HeldWithin self (roomsOf (now store) (now table) (now normal) (now overlay) (now output)) ⌝ }
-        requires { ⌜ BodyFits self (roomsOf (now store) (now table) (now normal) (now overlay) (now output)) which (now body) ⌝ }
-        ensures { λ r. ⌜ ((r .session, roomsOf (now (store .exit)) (now (table .exit)) (now (normal .exit)) (now (overlay .exit)) (now (output .exit))), stepOutcome (r .answer)) ≡ actedIn self (roomsOf (now (store .entry)) (now (table .entry)) (now (normal .entry)) (now (overlay .entry)) (now (output .entry))) which (now (body .entry)) ⌝ }
-    {
-        match which {
-            Record::End => Acted {
-                session: self,
-                answer: StepAnswer::End,
-            },
-            Record::Write { address, value } => self.write(store, address, value),
-            Record::Dots(count) => self.dots(store, count),
-            Record::Table => {
-                let mut counts = self.counts;
-                keep(table, counts.table, body);
-                counts.table += body.len();
-                self.holding(counts)
-            }
-            Record::Normal => {
-                let mut counts = self.counts;
-                keep(normal, 0, body);
-                counts.normal = body.len();
-                self.holding(counts)
-            }
-            Record::Overlay => {
-                let mut counts = self.counts;
-                keep(overlay, 0, body);
-                counts.overlay = body.len();
-                self.holding(counts)
-            }
-            Record::Line(y) => self.line(y, store, table, normal, overlay, output),
+// A record with this body.
+pub(crate) fn act(
+    state: State,
+    counts: Counts,
+    records: u32,
+    which: Record,
+    body: &[u8],
+    store: &mut [u32],
+    table: &mut [u8],
+    normal: &mut [u8],
+    overlay: &mut [u8],
+    output: &mut [u32],
+) -> Acted
+    requires { ⌜ records < mostRecords ⌝ }
+    requires { ⌜ HeldWithin (sessionWith state counts records) (roomsOf (now store) (now table) (now normal) (now overlay) (now output)) ⌝ }
+    requires { ⌜ BodyFits (sessionWith state counts records) (roomsOf (now store) (now table) (now normal) (now overlay) (now output)) which (now body) ⌝ }
+    ensures { λ r. ⌜ (((leftBy state r, roomsOf (now (store .exit)) (now (table .exit)) (now (normal .exit)) (now (overlay .exit)) (now (output .exit))), stepOutcome (r .answer)) ≡ actedIn (sessionWith state counts records) (roomsOf (now (store .entry)) (now (table .entry)) (now (normal .entry)) (now (overlay .entry)) (now (output .entry))) which (now (body .entry))) × Tells (state .queue) (r .change .queue) ⌝ }
+{
+    let mut held = counts;
+    match which {
+        Record::End => Acted {
+            change: state.unchanged(),
+            counts,
+            records,
+            answer: StepAnswer::End,
+        },
+        Record::Write { address, value } => write(state, counts, records, store, address, value),
+        Record::Dots(count) => dots(state, counts, records, store, count),
+        Record::Table => {
+            keep(table, held.table, body);
+            held.table += body.len();
+            listed(state.unchanged(), held, records, ListingEntry::Ok)
         }
+        Record::Normal => {
+            keep(normal, 0, body);
+            held.normal = body.len();
+            listed(state.unchanged(), held, records, ListingEntry::Ok)
+        }
+        Record::Overlay => {
+            keep(overlay, 0, body);
+            held.overlay = body.len();
+            listed(state.unchanged(), held, records, ListingEntry::Ok)
+        }
+        Record::Line(y) => line(
+            state,
+            counts,
+            records,
+            y,
+            store,
+            table,
+            normal,
+            overlay,
+            output,
+        ),
     }
 }
