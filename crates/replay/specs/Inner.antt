@@ -1,13 +1,22 @@
--- What writing and reading may leave of a course and of the input.
+-- What a turn leaves of the session, and what writing and reading may leave of a course and of the input.
 use Prim.Native.Nat.{ℕ}
 use mathlib.Core.Path.{_≡_}
 use mathlib.Core.List.{List, _++_}
 use mathlib.Core.Logic.{_⊎_}
 use lib.ListN.{length, take}
+use Rattle.chip.specs.Change.{changedBy}
+use Rattle.chip.specs.declared.state.State.{State}
+use Rattle.session.specs.Done.{sessionWith}
+use Rattle.session.specs.declared.session.Session.{Session}
 use Rattle.replay.specs.Run.{unreadIn, goingSo, writtenOut, takenIn, nothingRead}
 use Rattle.replay.specs.declared.course.Going.{Going}
 use Rattle.replay.specs.declared.course.Going.the-variants.{On, Full, Read, Over, Unread, Unwritten}
 use Rattle.replay.specs.declared.course.Course.{Course}
+use Rattle.replay.specs.declared.turn.Turned.{Turned}
+
+-- the session after a turn, by the state before it
+abbrev pub turnedTo : State → Turned → Session
+turnedTo state turned = sessionWith (changedBy state (turned .change)) (turned .counts) (turned .records)
 
 -- after writing: no text waits, and the run goes on so; or it breaks off
 abbrev pub AfterWriting : Course → Going → Course → Type 0

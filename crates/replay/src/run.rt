@@ -17,9 +17,19 @@ use crate::input::read_on;
 use crate::rooms;
 use crate::text::write_out;
 use crate::text::written;
-use crate::turn::Turned;
 use crate::turn::turn;
+use chip::change::QueueChange;
+use chip::state::State;
 use session::session::Session;
+use session_rooms::Counts;
+
+// What the turns of a run leave.
+struct Ended {
+    // The session after the last of them.
+    session: Session,
+    // How far the run is.
+    course: Course,
+}
 
 // Writes out the text that waits, and then reads on.
 fn read_after(file: i32, input: &mut [u8], lines: &[u8], course: Course) -> Course
@@ -58,16 +68,24 @@ fn run_turns(
     normal: &mut [u8],
     overlay: &mut [u8],
     output: &mut [u32],
-) -> Turned
+) -> Ended
     requires { ⌜ (65538 ≤ length (now input)) × (roomOf longestLine ≤ length (now lines)) × Zeroed (roomsOf (now store) (now table) (now normal) (now overlay) (now output)) × RightLengths (roomsOf (now store) (now table) (now normal) (now overlay) (now output)) ⌝ }
     ensures { λ r. ⌜ RunsOut (runOf begun (sessionOf nothingHeld) (roomsOf (now (store .entry)) (now (table .entry)) (now (normal .entry)) (now (overlay .entry)) (now (output .entry))) (now (input .entry)) (now (lines .entry))) (runOf (r .course) (r .session) (roomsOf (now (store .exit)) (now (table .exit)) (now (normal .exit)) (now (overlay .exit)) (now (output .exit))) (now (input .exit)) (now (lines .exit))) ⌝ }
 {
-    let mut session = Session::new();
+    let mut state = State::new();
+    let mut counts = Counts {
+        table: 0,
+        normal: 0,
+        overlay: 0,
+    };
+    let mut records = 0;
     let mut course = Course::start();
     let mut turns = u64::MAX;
     while turns > 0 && course.goes_on() {
         let turned = turn(
-            session,
+            state,
+            counts,
+            records,
             course,
             input,
             lines,
@@ -77,12 +95,30 @@ fn run_turns(
             overlay,
             output,
         );
-        session = turned.session;
         let asks = turned.course;
         course = served(file, input, lines, asks);
         turns -= 1;
+        counts = turned.counts;
+        records = turned.records;
+        let change = turned.change;
+        let control = change.control;
+        let at = change.at;
+        let queue = change.queue;
+        state.control = control;
+        state.at = at;
+        if let QueueChange::Same = queue {
+            continue;
+        }
+        state = state.queue_changed(queue);
     }
-    Turned { session, course }
+    Ended {
+        session: Session {
+            state,
+            counts,
+            records,
+        },
+        course,
+    }
 }
 
 // Says why a run broke off. Answers whether more can be written.

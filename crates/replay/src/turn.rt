@@ -6,11 +6,14 @@ ghost use Rattle.session_listing.specs.Text.{entrySays, text};
 ghost use Rattle.session_listing.specs.Room.{roomOf};
 ghost use Rattle.session_answers.specs.Status.{stepOutcome};
 ghost use Rattle.session.specs.Lent.{roomsOf};
+ghost use Rattle.session.specs.Done.{sessionWith};
+ghost use Rattle.replay.specs.Inner.{turnedTo};
 ghost use Rattle.replay.specs.Run.{runOf, goingAfter, addedBy, putBehind, hasRoom, turned};
 use crate::course::Course;
 use crate::course::Going;
-use session::session::Session;
-use session::step::step;
+use chip::change::Change;
+use chip::state::State;
+use session::step::record_step;
 use session_answers::Adds;
 use session_answers::StepAnswer;
 use session_listing::entry::ListingEntry;
@@ -18,11 +21,16 @@ use session_listing::render::FIRST_LINE_ROOM;
 use session_listing::render::PIXEL_ROOM;
 use session_listing::render::Rendered;
 use session_listing::render::render;
+use session_rooms::Counts;
 
 // What a turn leaves.
 pub(crate) struct Turned {
-    // The session after it.
-    pub(crate) session: Session,
+    // What becomes of the chip's state.
+    pub(crate) change: Change,
+    // How many bytes of table and rows are there.
+    pub(crate) counts: Counts,
+    // How many records stood before the next one.
+    pub(crate) records: u32,
     // How far the run is.
     pub(crate) course: Course,
 }
@@ -81,7 +89,9 @@ fn put_added(answer: StepAnswer, output: &[u32], lines: &mut [u8], put: usize) -
 
 // Steps once on the unread bytes, where the text has room for whatever is listed. Else asks to write it out first.
 pub(crate) fn turn(
-    session: Session,
+    state: State,
+    counts: Counts,
+    records: u32,
     course: Course,
     input: &[u8],
     lines: &mut [u8],
@@ -92,17 +102,21 @@ pub(crate) fn turn(
     output: &mut [u32],
 ) -> Turned
     requires { ⌜ course .to ≤ length (now input) ⌝ }
-    ensures { λ r. ⌜ runOf (r .course) (r .session) (roomsOf (now (store .exit)) (now (table .exit)) (now (normal .exit)) (now (overlay .exit)) (now (output .exit))) (now (input .entry)) (now (lines .exit)) ≡ turned (runOf course session (roomsOf (now (store .entry)) (now (table .entry)) (now (normal .entry)) (now (overlay .entry)) (now (output .entry))) (now (input .entry)) (now (lines .entry))) ⌝ }
+    ensures { λ r. ⌜ runOf (r .course) (turnedTo state r) (roomsOf (now (store .exit)) (now (table .exit)) (now (normal .exit)) (now (overlay .exit)) (now (output .exit))) (now (input .entry)) (now (lines .exit)) ≡ turned (runOf course (sessionWith state counts records) (roomsOf (now (store .entry)) (now (table .entry)) (now (normal .entry)) (now (overlay .entry)) (now (output .entry))) (now (input .entry)) (now (lines .entry))) ⌝ }
 {
     if !has_room(lines.len(), course.put, output.len()) {
         return Turned {
-            session,
+            change: state.unchanged(),
+            counts,
+            records,
             course: course.going_so(Going::Full),
         };
     }
     let to = course.to;
-    let stepped = step(
-        session,
+    let done = record_step(
+        state,
+        counts,
+        records,
         &input[0..to],
         course.from,
         course.last,
@@ -112,13 +126,16 @@ pub(crate) fn turn(
         overlay,
         output,
     );
-    let next = stepped.session;
-    let answer = stepped.answer;
+    let change = done.change;
+    let held = done.counts;
+    let answer = done.answer;
     let end = put_added(answer, output, lines, course.put);
     Turned {
-        session: next,
+        change,
+        counts: held,
+        records: done.records,
         course: Course {
-            from: stepped.place,
+            from: done.place,
             to: course.to,
             last: course.last,
             put: end,

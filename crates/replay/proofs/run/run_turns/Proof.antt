@@ -7,6 +7,7 @@ use borrow.Author.Needs.{needs}
 use lib.ListN.{length}
 use Rattle.session.specs.Held.{nothingHeld}
 use Rattle.session.specs.Lent.{roomsOf, sessionOf}
+use Rattle.session.specs.Done.{sessionWith}
 use Rattle.replay.specs.Run.{begun, runOf}
 use Rattle.replay.proofs.Listed.{wrote-listing}
 use Rattle.replay.proofs.Loop.{Running, running-start, running-next, serves-room}
@@ -15,7 +16,7 @@ use Rattle.replay.proofs.run.run_turns.Tie as tie
 
 -- before each turn the rooms have their lengths, and the run was reached from its start
 abbrev Inv-loop : tie.InvT-loop
-Inv-loop file input₀ lines₀ store₀ table₀ normal₀ overlay₀ output₀ session₀ course₀ turns₀ input lines store table normal overlay output session course turns =
+Inv-loop file input₀ lines₀ store₀ table₀ normal₀ overlay₀ output₀ state₀ counts₀ records₀ course₀ turns₀ input lines store table normal overlay output state counts records course turns =
     (length input ≡ length input₀)
     × (length lines ≡ length lines₀)
     × (length store ≡ length store₀)
@@ -23,11 +24,11 @@ Inv-loop file input₀ lines₀ store₀ table₀ normal₀ overlay₀ output₀
     × (length normal ≡ length normal₀)
     × (length overlay ≡ length overlay₀)
     × (length output ≡ length output₀)
-    × ((made : ℕ) × ((made + turns ≡ 2 ^ 64 - 1) × Running (runOf begun (sessionOf nothingHeld) (roomsOf store₀ table₀ normal₀ overlay₀ output₀) input₀ lines₀) made (runOf course session (roomsOf store table normal overlay output) input lines)))
+    × ((made : ℕ) × ((made + turns ≡ 2 ^ 64 - 1) × Running (runOf begun (sessionOf nothingHeld) (roomsOf store₀ table₀ normal₀ overlay₀ output₀) input₀ lines₀) made (runOf course (sessionWith state counts records) (roomsOf store table normal overlay output) input lines)))
 
 -- how many turns are left
 abbrev μ-loop : tie.MeasureT-loop
-μ-loop file input₀ lines₀ store₀ table₀ normal₀ overlay₀ output₀ session₀ course₀ turns₀ input lines store table normal overlay output session course turns = turns
+μ-loop file input₀ lines₀ store₀ table₀ normal₀ overlay₀ output₀ state₀ counts₀ records₀ course₀ turns₀ input lines store table normal overlay output state counts records course turns = turns
 
 new-requires : tie.Need-new-requires Inv-loop μ-loop
 new-requires c κs = search needs
@@ -47,30 +48,56 @@ turn-requires c κs = c .before .before .before .before .before .before .before 
 
 served-requires : tie.Need-served-requires Inv-loop μ-loop
 served-requires c κs =
-    let loop = c .before .before .before .before .before .before .before .before .before .before .before .before .before .before .before .before .before .before .before .before .before .before .before .before .before .before .before .loop in
-    let run = runOf (loop .course) (loop .session) (roomsOf (loop .store) (loop .table) (loop .normal) (loop .overlay) (loop .output)) (loop .input) (loop .lines) in
-    serves-room run _ (c .before .before .before .before .before .before .before .before .before .before .before .before .before .before .before .before .turn .ensures) (loop .inv .7 .1 .1 .inside) (omega (arith, loop .inv .0, c .before .before .before .before .before .before .before .before .before .before .before .before .before .before .before .before .before .before .before .before .before .before .before .before .before .before .before .before .before .before .before .before .before .before .before .before .before .pre .0))
+    let loop = c .before .before .before .before .before .before .before .before .before .before .before .before .before .before .before .before .before .before .before .before .before .before .before .before .before .before .loop in
+    let run = runOf (loop .course) (sessionWith (loop .state) (loop .counts) (loop .records)) (roomsOf (loop .store) (loop .table) (loop .normal) (loop .overlay) (loop .output)) (loop .input) (loop .lines) in
+    serves-room run _ (c .before .before .before .before .before .before .before .before .before .before .before .before .before .before .before .turn .ensures) (loop .inv .7 .1 .1 .inside) (omega (arith, loop .inv .0, c .before .before .before .before .before .before .before .before .before .before .before .before .before .before .before .before .before .before .before .before .before .before .before .before .before .before .before .before .before .before .before .before .before .before .before .before .pre .0))
 
 sub-turns : tie.Need-sub-turns Inv-loop μ-loop
-sub-turns c = omega (arith, c .before .before .before .before .before .before .before .before .before .before .before .before .before .before .before .before .before .before .before .before .before .before .before .before .before .before .before .before .before .loop-test .taken)
+sub-turns c = omega (arith, c .before .before .before .before .before .before .before .before .before .before .before .before .before .before .before .before .before .before .before .before .before .before .before .before .before .before .before .before .loop-test .taken)
+
+enum-told : tie.Need-enum-told Inv-loop μ-loop
+enum-told c = search needs
 
 loop-less : tie.Need-loop-less Inv-loop μ-loop
-loop-less c = omega (arith, c .before .before .before .before .before .before .before .before .before .before .before .before .before .before .before .before .before .before .before .before .before .before .before .before .before .before .before .before .before .loop-test .taken)
+loop-less c = omega (arith, c .before .before .before .before .before .before .before .before .before .before .before .before .before .before .before .before .before .before .before .before .before .before .before .before .before .before .before .before .before .before .before .before .before .before .loop-test .taken)
 
 loop-again : tie.Need-loop-again Inv-loop μ-loop
 loop-again c =
-    let loop = c .before .before .before .before .before .before .before .before .before .before .before .before .before .before .before .before .before .before .before .before .before .before .before .before .before .before .before .before .before .before .loop in
-    let run = runOf (loop .course) (loop .session) (roomsOf (loop .store) (loop .table) (loop .normal) (loop .overlay) (loop .output)) (loop .input) (loop .lines) in
-    let turn = c .before .before .before .before .before .before .before .before .before .before .before .before .before .before .before .before .before .before .before .turn in
-    let served = c .before .before .served in (
+    let loop = c .before .before .before .before .before .before .before .before .before .before .before .before .before .before .before .before .before .before .before .before .before .before .before .before .before .before .before .before .before .before .before .before .before .before .before .loop in
+    let run = runOf (loop .course) (sessionWith (loop .state) (loop .counts) (loop .records)) (roomsOf (loop .store) (loop .table) (loop .normal) (loop .overlay) (loop .output)) (loop .input) (loop .lines) in
+    let turn = c .before .before .before .before .before .before .before .before .before .before .before .before .before .before .before .before .before .before .before .before .before .before .before .before .turn in
+    let served = c .before .before .before .before .before .before .before .before .served in (
       served .kept .1 .0 ∙ loop .inv .0,
-      turn .kept .1 .1 .1 .0 ∙ loop .inv .1,
-      turn .kept .1 .1 .1 .1 .0 ∙ loop .inv .2,
-      turn .kept .1 .1 .1 .1 .1 .0 ∙ loop .inv .3,
-      turn .kept .1 .1 .1 .1 .1 .1 .0 ∙ loop .inv .4,
-      turn .kept .1 .1 .1 .1 .1 .1 .1 .0 ∙ loop .inv .5,
-      turn .kept .1 .1 .1 .1 .1 .1 .1 .1 .0 ∙ loop .inv .6,
-      (suc (loop .inv .7 .0), (omega (arith, loop .inv .7 .1 .0, c .before .before .before .before .before .before .before .before .before .before .before .before .before .before .before .before .before .before .before .before .before .before .before .before .before .before .before .before .before .loop-test .taken), running-next run _ (loop .inv .7 .1 .1) (sym (c .before .before .before .before .before .before .before .before .before .before .before .before .before .before .before .before .before .before .before .before .before .before .before .before .before .before .before .before .goes-on .ensures) ∙ c .before .before .before .before .before .before .before .before .before .before .before .before .before .before .before .before .before .before .before .before .before .before .before .before .before .before .before .if1 .taken) (turn .ensures) (served .ensures))),
+      turn .kept .1 .1 .1 .1 .1 .0 ∙ loop .inv .1,
+      turn .kept .1 .1 .1 .1 .1 .1 .0 ∙ loop .inv .2,
+      turn .kept .1 .1 .1 .1 .1 .1 .1 .0 ∙ loop .inv .3,
+      turn .kept .1 .1 .1 .1 .1 .1 .1 .1 .0 ∙ loop .inv .4,
+      turn .kept .1 .1 .1 .1 .1 .1 .1 .1 .1 .0 ∙ loop .inv .5,
+      turn .kept .1 .1 .1 .1 .1 .1 .1 .1 .1 .1 .0 ∙ loop .inv .6,
+      (suc (loop .inv .7 .0), (omega (arith, loop .inv .7 .1 .0, c .before .before .before .before .before .before .before .before .before .before .before .before .before .before .before .before .before .before .before .before .before .before .before .before .before .before .before .before .before .before .before .before .before .before .loop-test .taken), running-next run _ (loop .inv .7 .1 .1) (sym (c .before .before .before .before .before .before .before .before .before .before .before .before .before .before .before .before .before .before .before .before .before .before .before .before .before .before .before .before .before .before .before .before .before .goes-on .ensures) ∙ c .before .before .before .before .before .before .before .before .before .before .before .before .before .before .before .before .before .before .before .before .before .before .before .before .before .before .before .before .before .before .before .before .if1 .taken) (rw (c .enum-told .given .1) at (turn .ensures)) (served .ensures))),
+    )
+
+queue-changed-requires : tie.Need-queue-changed-requires Inv-loop μ-loop
+queue-changed-requires c κs = search needs
+
+loop-less-2 : tie.Need-loop-less-2 Inv-loop μ-loop
+loop-less-2 c = omega (arith, c .before .before .before .before .before .before .before .before .before .before .before .before .before .before .before .before .before .before .before .before .before .before .before .before .before .before .before .before .before .before .before .before .before .before .loop-test .taken)
+
+loop-again-2 : tie.Need-loop-again-2 Inv-loop μ-loop
+loop-again-2 c =
+    let loop = c .before .before .before .before .before .before .before .before .before .before .before .before .before .before .before .before .before .before .before .before .before .before .before .before .before .before .before .before .before .before .before .before .before .before .before .loop in
+    let run = runOf (loop .course) (sessionWith (loop .state) (loop .counts) (loop .records)) (roomsOf (loop .store) (loop .table) (loop .normal) (loop .overlay) (loop .output)) (loop .input) (loop .lines) in
+    let turn = c .before .before .before .before .before .before .before .before .before .before .before .before .before .before .before .before .before .before .before .before .before .before .before .before .turn in
+    let served = c .before .before .before .before .before .before .before .before .served in
+    rw (c .queue-changed .ensures) (
+      served .kept .1 .0 ∙ loop .inv .0,
+      turn .kept .1 .1 .1 .1 .1 .0 ∙ loop .inv .1,
+      turn .kept .1 .1 .1 .1 .1 .1 .0 ∙ loop .inv .2,
+      turn .kept .1 .1 .1 .1 .1 .1 .1 .0 ∙ loop .inv .3,
+      turn .kept .1 .1 .1 .1 .1 .1 .1 .1 .0 ∙ loop .inv .4,
+      turn .kept .1 .1 .1 .1 .1 .1 .1 .1 .1 .0 ∙ loop .inv .5,
+      turn .kept .1 .1 .1 .1 .1 .1 .1 .1 .1 .1 .0 ∙ loop .inv .6,
+      (suc (loop .inv .7 .0), (omega (arith, loop .inv .7 .1 .0, c .before .before .before .before .before .before .before .before .before .before .before .before .before .before .before .before .before .before .before .before .before .before .before .before .before .before .before .before .before .before .before .before .before .before .loop-test .taken), running-next run _ (loop .inv .7 .1 .1) (sym (c .before .before .before .before .before .before .before .before .before .before .before .before .before .before .before .before .before .before .before .before .before .before .before .before .before .before .before .before .before .before .before .before .before .goes-on .ensures) ∙ c .before .before .before .before .before .before .before .before .before .before .before .before .before .before .before .before .before .before .before .before .before .before .before .before .before .before .before .before .before .before .before .before .if1 .taken) (turn .ensures) (served .ensures))),
     )
 
 same-length : tie.Need-same-length Inv-loop μ-loop
@@ -156,8 +183,12 @@ run-turns-spec =
     turn-requires
     served-requires
     sub-turns
+    enum-told
     loop-less
     loop-again
+    queue-changed-requires
+    loop-less-2
+    loop-again-2
     same-length
     same-length-2
     same-length-3
