@@ -7,7 +7,6 @@ use native.Mathlib.Omega.{arith}
 use Rattle.rules.specs.Rule.{value}
 use Rattle.rules.proofs.Fill.{Filling, fill-start, fill-next, fill-over}
 use Rattle.words.specs.Field.{bits}
-use Rattle.line_formats.specs.Table.{widthsOf}
 use Rattle.line_colour.specs.Shown.{shownOf}
 use Rattle.line_colour.specs.declared.entry.Shown.the-variants.{MapEntry}
 use Rattle.line_colour.proofs.Defined.{map-entry-below}

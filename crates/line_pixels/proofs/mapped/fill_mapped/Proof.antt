@@ -3,7 +3,7 @@ use Prim.Native.Nat.{ℕ}
 use mathlib.Core.Path.{refl, _∙_}
 use mathlib.Core.Bool.{false}
 use borrow.Author.Needs.{needs}
-use borrow.Author.Tests.{not-true, not-false}
+use borrow.Author.Tests.{not-true}
 use Rattle.rules.specs.Rule.{value}
 use Rattle.rules.proofs.Change.{changed-run, changed-anywhere}
 use Rattle.line_colour.specs.Shown.{sampleOf, shownOf}

@@ -1,9 +1,8 @@
 -- `line_pixels::mapped::map_by` meets its contract: one word a turn. Assumes nothing.
-use Prim.Native.Nat.{ℕ, _-_, _<_}
+use Prim.Native.Nat.{_-_}
 use mathlib.Core.Path.{ap, _∙_}
 use native.Mathlib.Nat.{le-refl}
 use native.Mathlib.Omega.{arith}
-use lib.ListN.{getD}
 use Rattle.rules.proofs.Change.{Changing, change-start, still, change-here, change-over}
 use Rattle.line_pixels.specs.Inner.{byTables, mapColour}
 use Rattle.line_pixels.proofs.mapped.map_by.Statement.{statement}

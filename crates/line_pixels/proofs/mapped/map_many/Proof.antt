@@ -1,5 +1,4 @@
 -- `line_pixels::mapped::map_many` meets its contract: the colours through the tables into which the gamma map is split. Assumes nothing.
-use Prim.Native.Nat.{ℕ}
 use mathlib.Core.Path.{_∙_}
 use mathlib.Core.Bool.{false}
 use borrow.Author.Needs.{needs}
@@ -7,7 +6,7 @@ use Rattle.rules.specs.Rule.{value}
 use Rattle.rules.proofs.Change.{changed-same}
 use Rattle.line_pixels.specs.Cells.{pixelView}
 use Rattle.line_pixels.specs.Colour.{throughGamma}
-use Rattle.line_pixels.specs.Inner.{byTables, mapColour}
+use Rattle.line_pixels.specs.Inner.{mapColour}
 use Rattle.line_pixels.proofs.GammaTables.{tables-fit, tables-correct}
 use Rattle.line_pixels.proofs.mapped.map_many.Statement.{statement}
 use Rattle.line_pixels.proofs.mapped.map_many.Tie as tie
