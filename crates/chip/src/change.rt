@@ -79,6 +79,10 @@ impl State {
         let queue = change.queue;
         self.control = control;
         self.at = at;
+        // Apart from the rest, so that a queue that stays is not copied.
+        if let QueueChange::Same = queue {
+            return self;
+        }
         self.queue_changed(queue)
     }
 }
