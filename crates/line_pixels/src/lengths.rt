@@ -1,10 +1,12 @@
 // From which length on a run is drawn in which way: where the quick way begins to pay. docs/DECISIONS.md has the measurement.
+ghost use mathlib.Core.Path.{_≡_};
+ghost use mathlib.Core.Bool.{cond};
 
 // The shortest run that is drawn layer by layer. A single pixel is drawn by the function that says what any pixel shows.
 pub(crate) const LAYERED_RUN: usize = 2;
 
-// The shortest run of indices that becomes map entries first.
-pub(crate) const MAPPED_RUN: usize = 16;
+// The shortest run of indices past gamma that becomes map entries first.
+const MAPPED_RUN: usize = 40;
 
 // The shortest run of 8-bit samples for which the colours of all samples are made first.
 pub(crate) const LOOKED_UP_RUN: usize = 192;
@@ -17,3 +19,13 @@ pub(crate) const PAIRED_RUN: usize = 128;
 
 // The fewest words for which the gamma map is split into its channels first.
 pub(crate) const SPLIT_WORDS: usize = 128;
+
+// The shortest run of indices that becomes map entries first: through gamma it is one for which the gamma map is split too.
+pub(crate) fn shortest_mapped(bypass: bool) -> usize
+    ensures { λ r. ⌜ r ≡ cond bypass 40 128 ⌝ }
+{
+    if bypass {
+        return MAPPED_RUN;
+    }
+    SPLIT_WORDS
+}

@@ -10,7 +10,6 @@ ghost use Rattle.chip_registers.specs.Store.{storeLength};
 ghost use Rattle.line_pixels.specs.Cells.{mapEntry};
 ghost use Rattle.line_pixels.specs.Sampling.{samplingOf};
 ghost use Rattle.line_pixels.specs.Inner.{PlainLent, OverStore, TablesFit, byTables, CountedFrom, mapColour, AllEntries, MappedThrough, FilledPlain};
-use crate::correction::correct;
 use crate::correction::split;
 use crate::correction::through;
 use crate::entries::fill_entries;
@@ -18,8 +17,7 @@ use crate::entries::first_entry;
 use crate::fours::put_four;
 use crate::layers::mapped;
 use crate::layers::through_gamma;
-use crate::lengths::MAPPED_RUN;
-use crate::lengths::SPLIT_WORDS;
+use crate::lengths::shortest_mapped;
 use crate::sampling::Sampling;
 use chip_registers::Block;
 use chip_registers::COLOUR_MAP_START;
@@ -133,7 +131,7 @@ pub(crate) fn fill_mapped(
     requires { ⌜ PlainLent depth entry (now store) (now normal) (x + count) × ((entry .format ≡ Format.Index8) ⊎ (entry .format ≡ Format.Index12)) × (count ≤ length (now out)) ⌝ }
     ensures { λ _. ⌜ FilledPlain depth entry (now (store .entry)) (now (normal .entry)) x count (now (out .entry)) (now (out .exit)) ⌝ }
 {
-    if count < MAPPED_RUN {
+    if count < shortest_mapped(entry.bypass) {
         let first = first_entry(entry);
         fill_few(
             depth,
@@ -148,12 +146,9 @@ pub(crate) fn fill_mapped(
         return;
     }
     fill_entries(depth, entry, normal, x, count, out);
-    if SPLIT_WORDS <= count {
-        if !entry.bypass {
-            map_many(store, out, count);
-            return;
-        }
+    if entry.bypass {
+        map_words(store, out, count);
+    } else {
+        map_many(store, out, count);
     }
-    map_words(store, out, count);
-    correct(store, entry.bypass, out, count);
 }
