@@ -6,7 +6,7 @@ use native.Mathlib.Omega.{arith}
 use lib.ListN.{getD}
 use lib.Seq.{getD-set-same}
 use Rattle.chip_timing.specs.declared.Position.{Position}
-use Rattle.chip_queue.specs.Queue.{zeroSlot, pushed, without}
+use Rattle.chip_queue.specs.Queue.{zeroSlot, pushed}
 use Rattle.chip_queue.specs.declared.Waiting.{Waiting}
 use Rattle.chip_queue.specs.declared.Queue.{Queue}
 use Rattle.chip_queue.proofs.Order.{pushed-is}

@@ -33,12 +33,6 @@ module _ (chip : Chip) where
   applied-waiting zero = omega arith
   applied-waiting (suc count) = let before = applied-waiting count in omega arith
 
-  -- the control words stay
-  pub applied-control : (count : ℕ) → appliedBy count chip .0 .control ≡ chip .0 .control
-  unfolding appliedBy
-  applied-control zero = refl
-  applied-control (suc count) = applied-control count
-
   -- they have left the queue, and are in the store
   applied-is : (count : ℕ) → appliedBy count chip ≡ (withQueue (chip .0) (without (chip .0 .queue) count), storedBy count (chip .0 .queue) (chip .1))
   unfolding appliedBy storedBy without

@@ -22,8 +22,6 @@ use Rattle.chip.specs.declared.report.DotsAnswer.the-variants.{Reported,
 use Rattle.chip.specs.declared.report.Dotted.{Dotted}
 use Rattle.chip.specs.Call.{Chip}
 use Rattle.chip.specs.declared.change.Change.{Change}
-use Rattle.chip.specs.declared.write.Wrote.{Wrote}
-use Rattle.chip.specs.declared.report.Ran.{Ran}
 use Rattle.chip.proofs.Changes.{change-known}
 use Rattle.chip.proofs.state.State.new.Reads as new
 use Rattle.chip.proofs.state.State.unchanged.Reads as unchanged

@@ -1,4 +1,4 @@
--- What a call changes of the state, besides the store.
+-- What a call changes of the state.
 use Prim.Native.Nat.{_≤_, _<_}
 use lib.ListN.{length}
 use Rattle.chip_queue.specs.Queue.{mostWaiting, pushed, without}
@@ -22,7 +22,7 @@ queueBy queue (Drained taken) = without queue taken
 abbrev pub changedBy : State → Change → State
 changedBy state change = record { control = change .control; at = change .at; queue = queueBy (state .queue) (change .queue) }
 
--- a change of the queue that leaves another queue: a write joins where there is room, and some of those that wait leave
+-- a change of the queue says no more than it does: a write joins only where there is room, and at least one leaves, of those that wait
 abbrev pub Tells : Queue → QueueChange → Type 0
 Tells queue Same = Unit {0}
 Tells queue (Joined write) = (queue .waiting < mostWaiting) × (queue .waiting < length (queue .slots))

@@ -1,4 +1,4 @@
-// What a call changes of the state, besides the store.
+// What a call changes of the state.
 ghost use mathlib.Core.Path.{_≡_};
 ghost use Rattle.chip_queue.specs.Queue.{pushed, without};
 ghost use Rattle.chip.specs.State.{withQueue};

@@ -7,7 +7,6 @@ pub mod CursorShows
 pub mod CellsInMemory
 pub mod LayersCases
 pub mod Colours
-pub mod NormalRuns
 pub mod RgbRuns
 pub mod MapRuns
 pub mod SumRows

@@ -1,4 +1,4 @@
--- Long runs in RGB 4-4-4 and 5-5-5 through gamma: the table of pairs green by green, what the two tables have, and why the sum of a pair and a blue is the plain colour of a pixel. Assumes nothing.
+-- Long runs in RGB 4-4-4 and 5-5-5 through gamma: what the two tables have, and why the sum of a pair and a blue is the plain colour of a pixel. Assumes nothing.
 use Prim.Native.Nat.{ℕ, _+_, _-_, _*_, _/_, _%_, _^_, _≤_, _<_}
 use mathlib.Core.Path.{_≡_, ap, ap₂, _∙_}
 use mathlib.Core.Bool.{Bool, true, false, cond}

@@ -1,5 +1,5 @@
 -- Where the pixels of a run stand in the normal row, under an entry that is defined at the depth. Assumes nothing.
-use Prim.Native.Nat.{ℕ, _+_, _*_, _/_, _≤_}
+use Prim.Native.Nat.{ℕ, _+_, _*_, _/_, _≤_, _<_}
 use mathlib.Core.Path.{_≡_}
 use mathlib.Core.Logic.{⊎-elim}
 use mathlib.Core.List.{List}
@@ -56,3 +56,8 @@ module _ {depth end : ℕ} {entry : WindowEntry} {store normal : List ℕ} (lent
 pub pixels-before : {screen : Screen} {entry : WindowEntry} {store normal overlay : List ℕ} {end before : ℕ}
     → PixelsLent screen entry store normal overlay end → before ≤ end → PixelsLent screen entry store normal overlay before
 pixels-before lent le = record { plain = plain-before (lent .plain) le; overlay-long = λ counts. le-trans le (lent .overlay-long counts) }
+
+-- the normal row has each pixel of a run
+pub pixel-in-row : (depth : ℕ) (entry : WindowEntry) (normal : List ℕ) (x : ℕ) {count i : ℕ}
+    → RowLent depth entry normal (x + count) → i < count → (x + i + 1) * (depth / 8) ≤ length normal
+pixel-in-row depth entry normal x {count} {i} lent more = row-before depth entry normal lent (omega (arith, more))

@@ -12,8 +12,8 @@ ghost use Rattle.line_pixels.specs.Inner.{PlainLent, PixelsLent, FilledP
 use crate::Screen;
 use crate::correction::correct;
 use crate::lengths::LAYERED_RUN;
-use crate::lengths::LOOKED_UP_RUN;
 use crate::lengths::PAIRED_RUN;
+use crate::lengths::shortest_looked_up;
 use crate::looked_up::fill_looked_up;
 use crate::mapped::fill_mapped;
 use crate::overlay::lay_overlay;
@@ -65,7 +65,7 @@ fn fill_plain(
     ensures { λ _. ⌜ FilledPlain depth entry (now (store .entry)) (now (normal .entry)) x count (now (out .entry)) (now (out .exit)) ⌝ }
 {
     let format = entry.format;
-    if LOOKED_UP_RUN <= count {
+    if shortest_looked_up(entry.bypass) <= count {
         if samples_of_8(format) {
             fill_looked_up(depth, entry, store, normal, x, count, out);
             return;

@@ -8,8 +8,11 @@ pub(crate) const LAYERED_RUN: usize = 2;
 // The shortest run of indices past gamma that becomes map entries first.
 const MAPPED_RUN: usize = 40;
 
-// The shortest run of 8-bit samples for which the colours of all samples are made first.
-pub(crate) const LOOKED_UP_RUN: usize = 192;
+// The shortest run of 8-bit samples past gamma for which the colours of all samples are made first.
+const LOOKED_UP_BYPASSED: usize = 64;
+
+// The shortest such run through gamma.
+const LOOKED_UP_CORRECTED: usize = 192;
 
 // The shortest run for which the colours of all overlay bytes are made first.
 pub(crate) const OVERLAY_RUN: usize = 256;
@@ -19,6 +22,16 @@ pub(crate) const PAIRED_RUN: usize = 128;
 
 // The fewest words for which the gamma map is split into its channels first.
 pub(crate) const SPLIT_WORDS: usize = 128;
+
+// The shortest run of 8-bit samples for which the colours of all samples are made first.
+pub(crate) fn shortest_looked_up(bypass: bool) -> usize
+    ensures { λ r. ⌜ r ≡ cond bypass 64 192 ⌝ }
+{
+    if bypass {
+        return LOOKED_UP_BYPASSED;
+    }
+    LOOKED_UP_CORRECTED
+}
 
 // The shortest run of indices that becomes map entries first: through gamma it is one for which the gamma map is split too.
 pub(crate) fn shortest_mapped(bypass: bool) -> usize

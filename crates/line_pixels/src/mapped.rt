@@ -36,7 +36,7 @@ pub(crate) fn map_colours(store: &[u32], first: u32, colours: &mut [u32; 256])
     }
 }
 
-// The colour of a map entry.
+// The colour of a map entry: what `mapped` answers, by its place in the store.
 fn entry_colour(store: &[u32], number: u32) -> u32
     requires { ⌜ (length (now store) ≡ storeLength) × (number < count Block.ColourMap) ⌝ }
     ensures { λ r. ⌜ r ≡ mapColour (now (store .entry)) number ⌝ }

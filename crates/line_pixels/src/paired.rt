@@ -3,7 +3,7 @@ ghost use Prim.Native.Nat.{ℕ, _+_, _*_, _/_, _%_, _≤_, _<_};
 ghost use mathlib.Core.Path.{_≡_};
 ghost use mathlib.Core.Bool.{true, false};
 ghost use mathlib.Core.Logic.{_⊎_};
-ghost use lib.ListN.{length, getD};
+ghost use lib.ListN.{length};
 ghost use Rattle.rules.specs.Lists.{filled};
 ghost use Rattle.chip_registers.specs.Store.{storeLength};
 ghost use Rattle.line_pixels.specs.Inner.{PlainLent, FilledPlain, gammaRed, gammaGreen, gammaBlue, PairedBy, PairsFit, pairedAt, valuesOf};
@@ -148,6 +148,7 @@ pub(crate) fn fill_paired(
         Format::Rgb444 => {
             let mut pairs = [0; 256];
             let mut blues = [0; 16];
+            // 17 times a value is 68 quarters of it.
             make_words(store, 16, 68, &mut pairs[..], &mut blues[..]);
             run_paired(
                 false,
@@ -164,6 +165,7 @@ pub(crate) fn fill_paired(
         Format::Rgb555 | Format::Index8 | Format::Index12 | Format::Rgb332 | Format::Rgb888 => {
             let mut pairs = [0; 1024];
             let mut blues = [0; 32];
+            // 8 times a value and a quarter of it are 33 quarters.
             make_words(store, 32, 33, &mut pairs[..], &mut blues[..]);
             run_paired(
                 true,

@@ -100,6 +100,7 @@ fn run_turns(
         turns -= 1;
         counts = turned.counts;
         records = turned.records;
+        // As `State::changed` has it, but in place, so that a queue that stays is not copied each turn.
         let change = turned.change;
         let control = change.control;
         let at = change.at;

@@ -10,7 +10,7 @@ use Rattle.chip.specs.declared.state.State.{State}
 use Rattle.chip.specs.declared.change.Change.{Change}
 use Rattle.session_listing.specs.Text.{EntrySays, entrySays}
 use Rattle.session_listing.specs.declared.entry.ListingEntry.{ListingEntry}
-use Rattle.session_answers.specs.Status.{Status, listed, stepOutcome}
+use Rattle.session_answers.specs.Status.{listed, stepOutcome}
 use Rattle.session_rooms.specs.declared.Counts.{Counts}
 use Rattle.line.specs.Cells.{Lent}
 use Rattle.line.specs.Drawn.{drawn}

@@ -6,7 +6,7 @@ use mathlib.Core.List.{List}
 use native.Mathlib.Numerals.{add-one}
 use native.Mathlib.Omega.{arith}
 use borrow.Author.Needs.{needs}
-use lib.ListN.{length, getD, set, length-map, length-set, length-take}
+use lib.ListN.{length, getD, set, length-map, length-set}
 use lib.Seq.{getD-take}
 use Rattle.chip_registers.specs.Blocks.{count}
 use Rattle.chip_registers.specs.Store.{storeLength}

@@ -10,13 +10,16 @@ use Rattle.line_pixels.proofs.LayersCases.{plain-of-normal}
 use Rattle.line_pixels.proofs.fill.fill_plain.Statement.{statement}
 use Rattle.line_pixels.proofs.fill.fill_plain.Tie as tie
 
+shortest-looked-up-requires : tie.Need-shortest-looked-up-requires
+shortest-looked-up-requires c κs = search needs
+
 samples-of-8-requires : tie.Need-samples-of-8-requires
 samples-of-8-requires c κs = search needs
 
 fill-looked-up-requires : tie.Need-fill-looked-up-requires
 fill-looked-up-requires c κs =
     let told = c .before .before in
-    let start = told .before .before .before .before .before in
+    let start = told .before .before .before .before .before .before in
     (start .pre .0, told .samples-of-8 .ensures (c .before .if2 .taken), start .pre .1)
 
 same-length : tie.Need-same-length
@@ -31,7 +34,7 @@ is-paired-requires c κs = search needs
 fill-paired-requires : tie.Need-fill-paired-requires
 fill-paired-requires c κs =
     let told = c .before .before in
-    let start = told .before .before .before .before .before .before in
+    let start = told .before .before .before .before .before .before .before in
     let both = told .is-paired .ensures (c .before .if4 .taken) in
     (start .pre .0, both .0, both .1, start .pre .1)
 
@@ -47,7 +50,7 @@ indexed-requires c κs = search needs
 fill-mapped-requires : tie.Need-fill-mapped-requires
 fill-mapped-requires c κs =
     let told = c .before .before in
-    let start = told .before .before .before .before .before .before in
+    let start = told .before .before .before .before .before .before .before in
     (start .pre .0, told .indexed .ensures .0 (c .before .if5 .taken), start .pre .1)
 
 same-length-3 : tie.Need-same-length-3
@@ -59,7 +62,7 @@ returns-3 c = search needs
 fill-rgb-requires : tie.Need-fill-rgb-requires
 fill-rgb-requires c κs =
     let told = c .before .before in
-    let start = told .before .before .before .before .before .before in
+    let start = told .before .before .before .before .before .before .before in
     ((start .pre .0 .said, start .pre .0 .normal-long), told .indexed .ensures .1 (c .before .if5 .left), start .pre .1)
 
 correct-requires : tie.Need-correct-requires
@@ -72,7 +75,7 @@ returns-4 : tie.Need-returns-4
 returns-4 c =
     let corrected = c .before .before in
     let filled = corrected .before .before .before .before in
-    let a = filled .before .before .before .before .before .before .before .before .before .args in
+    let a = filled .before .before .before .before .before .before .before .before .before .before .args in
     let colours = filled .fill-rgb .last .1 .1 .1 .1 .1 .0 in
     λ overlay.
     let memory = pixelView (a .store .now) (a .normal .now) overlay in
@@ -87,6 +90,7 @@ pub fill-plain-spec : {M : Type 1} → statement M
 fill-plain-spec =
     tie.close
     (tie.spec
+    shortest-looked-up-requires
     samples-of-8-requires
     fill-looked-up-requires
     same-length

@@ -13,10 +13,9 @@ use Rattle.line_colour.proofs.Defined.{map-entry-below}
 use Rattle.line_pixels.specs.Cells.{pixelView}
 use Rattle.line_pixels.specs.Colour.{plainAt}
 use Rattle.line_pixels.specs.declared.sampling.Sampling.{Sampling}
-use Rattle.line_pixels.proofs.Rows.{said-says, pixels-le}
+use Rattle.line_pixels.proofs.Rows.{said-says, pixels-le, pixel-in-row}
 use Rattle.line_pixels.proofs.CellsInMemory.{map-entry-in-store}
 use Rattle.line_pixels.proofs.LayersCases.{normal-of-map, plain-of-normal}
-use Rattle.line_pixels.proofs.NormalRuns.{pixel-in-row}
 use Rattle.line_pixels.proofs.mapped.fill_few.Statement.{statement}
 use Rattle.line_pixels.proofs.mapped.fill_few.Tie as tie
 
