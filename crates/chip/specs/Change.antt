@@ -18,7 +18,7 @@ queueBy queue Same = queue
 queueBy queue (Joined write) = pushed queue write
 queueBy queue (Drained taken) = without queue taken
 
--- the state after a change (CHIP 2.8, 3.3)
+-- the state after a change (CHIP 2.4)
 abbrev pub changedBy : State → Change → State
 changedBy state change = record { control = change .control; at = change .at; queue = queueBy (state .queue) (change .queue) }
 
