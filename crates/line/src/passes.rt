@@ -4,10 +4,12 @@ ghost use lib.ListN.{length};
 ghost use Rattle.chip_registers.specs.Store.{storeLength};
 ghost use Rattle.line.specs.Cells.{lentOf};
 ghost use Rattle.line.specs.Inner.{InRange, FitsScreen, Entries, EntriesAnswer, Enough, coloured};
-use crate::runs::entry_of;
 use crate::runs::id_at;
 use crate::runs::run_end;
+use crate::runs::stored_entry;
 use line_colour::entry::Decoded;
+use line_colour::entry::WindowEntry;
+use line_formats::NamedFormat;
 use line_pixels::Screen;
 use line_setup::controls::Controls;
 use line_windows::ids::LookedUp;
@@ -26,7 +28,8 @@ pub(crate) fn check_runs(controls: Controls, store: &[u32], table: &[u8], start:
         match looked {
             LookedUp::Refused(refusal) => return Answer::Refused(refusal),
             LookedUp::Id(found) => {
-                let says = entry_of(controls, store, found.id);
+                let word = stored_entry(store, found.id);
+                let says = line_colour::entry::decode(word, controls.depth);
                 if let Decoded::Undefined = says {
                     return Answer::Refused(Refusal::UndefinedEntry(x));
                 }
@@ -59,10 +62,13 @@ pub(crate) fn draw_runs(
             // Not taken: the first pass found an ID for every pixel.
             return;
         };
-        let Decoded::Defined(entry) = entry_of(controls, store, found.id) else {
-            // Not taken: the first pass found its window entry defined.
+        // By its format alone, as the first pass found the window entry defined: one that came in an enum would be put together again for each run.
+        let word = stored_entry(store, found.id);
+        let NamedFormat::Is(format) = line_colour::entry::format_of(word) else {
+            // Not taken: a defined window entry names a format.
             return;
         };
+        let entry = WindowEntry::of(format, word, controls.depth);
         let end = run_end(controls, found.last);
         let first = x as usize;
         let count = (end - x) as usize;

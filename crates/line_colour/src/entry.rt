@@ -1,6 +1,7 @@
 // Window entries: what an entry says at a depth, and what a sample then shows.
 ghost use mathlib.Core.Path.{_≡_};
-ghost use Rattle.line_colour.specs.Entry.{lowOf, decoded};
+ghost use Rattle.line_formats.specs.Table.{formatOfNumber};
+ghost use Rattle.line_colour.specs.Entry.{formatOf, lowOf, definedAs, decoded};
 ghost use Rattle.line_colour.specs.Shown.{shownOf};
 use line_formats::Format;
 use line_formats::Index8;
@@ -49,18 +50,24 @@ fn low_bit(depth: u32, buffer: u32) -> u32
     if buffer == 0 { 0 } else { depth / 2 }
 }
 
+// The format of an entry, defined or not.
+pub fn format_of(entry: u32) -> NamedFormat
+    ensures { λ r. ⌜ r ≡ formatOfNumber (formatOf entry) ⌝ }
+{
+    Format::from_number(words::field(entry, 3, 1))
+}
+
 // What an entry says at a depth.
 pub fn decode(entry: u32, depth: u32) -> Decoded
     ensures { λ r. ⌜ r ≡ decoded entry depth ⌝ }
 {
     let buffer = words::field(entry, 0, 0);
-    let number = words::field(entry, 3, 1);
     let bank = words::field(entry, 8, 4);
     let spare = words::field(entry, 12, 11);
     if spare != 0 {
         return Decoded::Undefined;
     }
-    let NamedFormat::Is(format) = Format::from_number(number) else {
+    let NamedFormat::Is(format) = format_of(entry) else {
         return Decoded::Undefined;
     };
     let part = format.part(depth);
@@ -73,16 +80,23 @@ pub fn decode(entry: u32, depth: u32) -> Decoded
     if !format.has_bank(bank) {
         return Decoded::Undefined;
     }
-    Decoded::Defined(WindowEntry {
-        format,
-        low: low_bit(depth, buffer),
-        bank: bank as u8,
-        bypass: words::field(entry, 9, 9) == 1,
-        overlay: words::field(entry, 10, 10) == 1,
-    })
+    Decoded::Defined(WindowEntry::of(format, entry, depth))
 }
 
 impl WindowEntry {
+    // What an entry of this format says at a depth where it is defined.
+    pub fn of(format: Format, entry: u32, depth: u32) -> Self
+        ensures { λ r. ⌜ r ≡ definedAs entry depth format ⌝ }
+    {
+        Self {
+            format,
+            low: low_bit(depth, words::field(entry, 0, 0)),
+            bank: words::field(entry, 8, 4) as u8,
+            bypass: words::field(entry, 9, 9) == 1,
+            overlay: words::field(entry, 10, 10) == 1,
+        }
+    }
+
     // What a sample shows.
     pub fn shown(self, sample: u32) -> Shown
         ensures { λ r. ⌜ r ≡ shownOf self sample ⌝ }

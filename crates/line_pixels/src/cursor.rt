@@ -79,8 +79,10 @@ fn common_span(x: usize, count: usize, first: usize, last: usize) -> Span
     requires { ⌜ count ≤ 65536 ⌝ }
     ensures { λ r. ⌜ CommonSpan x count first last r ⌝ }
 {
-    let behind = smaller(less(last, x), count) + 1;
-    let end = smaller(behind, count);
+    if last < x {
+        return Span { first: 0, end: 0 };
+    }
+    let end = smaller(smaller(last - x, count) + 1, count);
     Span {
         first: smaller(less(first, x), end),
         end,

@@ -8,25 +8,22 @@ use Rattle.words.specs.Field.{field}
 use Rattle.line_formats.specs.Table.{formatOfNumber, partAt, hasDepth, hasBuffer, hasBank}
 use Rattle.line_formats.specs.declared.Format.{Format}
 use Rattle.line_formats.specs.declared.NamedFormat.the-variants.{Is}
+use Rattle.line_colour.specs.declared.entry.Decoded.the-variants.{Defined}
 use Rattle.line_colour.proofs.Decode.{spare-bits, no-format, no-depth, no-buffer, no-bank, is-defined}
 use Rattle.line_colour.proofs.entry.decode.Statement.{statement}
 use Rattle.line_colour.proofs.entry.decode.Tie as tie
 
 -- the spare bits are clear
-clear : (c : tie.Else1) → field (c .before .before .before .before .before .args .entry) 12 11 ≡ 0
-clear c = sym (c .before .field4 .ensures .0) ∙ c .if1 .left
-
--- what the entry's number names
-number-names : (c : tie.After-from-number) → c .from-number .result ≡ formatOfNumber (field (c .before .before .before .before .before .before .args .entry) 3 1)
-number-names c = c .from-number .ensures ∙ ap formatOfNumber (c .before .before .before .before .field2 .ensures .0)
+clear : (c : tie.Else1) → field (c .before .before .before .before .args .entry) 12 11 ≡ 0
+clear c = sym (c .before .field3 .ensures .0) ∙ c .if1 .left
 
 -- the entry of a call whose format is known
 abbrev entry-of : (c : tie.After-format) → ℕ
-entry-of c = c .before .before .before .before .before .before .before .before .args .entry
+entry-of c = c .before .before .before .before .before .before .before .args .entry
 
 -- the depth of such a call
 abbrev depth-of : (c : tie.After-format) → ℕ
-depth-of c = c .before .before .before .before .before .before .before .before .args .depth
+depth-of c = c .before .before .before .before .before .before .before .args .depth
 
 -- the format of such a call
 abbrev format-of : (c : tie.After-format) → Format
@@ -38,7 +35,7 @@ clear-there c = clear (c .before .before .before)
 
 -- the entry's number names the format
 named : (c : tie.After-format) → formatOfNumber (field (entry-of c) 3 1) ≡ Is (format-of c)
-named c = sym (number-names (c .before .before)) ∙ c .format .given .1
+named c = sym (c .before .before .format-of .ensures) ∙ c .format .given .1
 
 -- the test of the depth says whether the format has the depth
 depth-says : (c : tie.After-has-depth)
@@ -51,7 +48,7 @@ buffer-says : (c : tie.After-has-buffer)
     c .has-buffer .result ≡ hasBuffer (partAt (format-of f) (depth-of f)) (field (entry-of f) 0 0)
 buffer-says c =
     let f = c .before .before .before .before .before in
-    c .has-buffer .ensures ∙ ap₂ hasBuffer (c .before .before .before .part .ensures) (f .before .before .before .before .before .before .before .field .ensures .0)
+    c .has-buffer .ensures ∙ ap₂ hasBuffer (c .before .before .before .part .ensures) (f .before .before .before .before .before .before .field .ensures .0)
 
 -- past the test of the depth the format has the depth
 at-depth : (c : tie.Else2) → let f = c .before .before .before .before in true ≡ hasDepth (partAt (format-of f) (depth-of f))
@@ -63,7 +60,7 @@ bank-says : (c : tie.After-has-bank)
     c .has-bank .result ≡ hasBank (format-of f) (field (entry-of f) 8 4)
 bank-says c =
     let f = c .before .before .before .before .before .before .before in
-    c .has-bank .ensures ∙ ap (λ (bank : ℕ). hasBank (format-of f) bank) (f .before .before .before .before .before .field3 .ensures .0)
+    c .has-bank .ensures ∙ ap (λ (bank : ℕ). hasBank (format-of f) bank) (f .before .before .before .before .before .field2 .ensures .0)
 
 -- past the test of the buffer the format has the buffer
 in-buffer : (c : tie.Else3)
@@ -79,16 +76,13 @@ field-requires-2 c κs = search needs
 field-requires-3 : tie.Need-field-requires-3
 field-requires-3 c κs = search needs
 
-field-requires-4 : tie.Need-field-requires-4
-field-requires-4 c κs = search needs
-
 returns : tie.Need-returns
 returns c =
-    let a = c .before .before .before .before .before .args in
-    spare-bits (a .entry) (a .depth) (λ e. c .if1 .taken (c .before .field4 .ensures .0 ∙ e))
+    let a = c .before .before .before .before .args in
+    spare-bits (a .entry) (a .depth) (λ e. c .if1 .taken (c .before .field3 .ensures .0 ∙ e))
 
-from-number-requires : tie.Need-from-number-requires
-from-number-requires c κs = search needs
+format-of-requires : tie.Need-format-of-requires
+format-of-requires c κs = search needs
 
 enum-known-format : tie.Need-enum-known-format
 enum-known-format c = search needs
@@ -98,8 +92,8 @@ enum-told c = search needs
 
 returns-2 : tie.Need-returns-2
 returns-2 c =
-    let a = c .before .before .before .before .before .before .before .before .args in
-    no-format (a .entry) (a .depth) (clear (c .before .before .before)) (sym (number-names (c .before .before)) ∙ c .enum-told .given .1)
+    let a = c .before .before .before .before .before .before .before .args in
+    no-format (a .entry) (a .depth) (clear (c .before .before .before)) (sym (c .before .before .format-of .ensures) ∙ c .enum-told .given .1)
 
 part-requires : tie.Need-part-requires
 part-requires c κs = search needs
@@ -130,25 +124,16 @@ returns-5 c =
     no-bank (entry-of f) (depth-of f) (clear-there f) (named f) (at-depth (c .before .before .before .before)) (in-buffer (c .before .before))
     (sym (not-true _ (c .if4 .taken)) ∙ bank-says (c .before))
 
-low-bit-requires : tie.Need-low-bit-requires
-low-bit-requires c κs = search needs
-
-cast-t13 : tie.Need-cast-t13
-cast-t13 c = search needs
-
-field-requires-5 : tie.Need-field-requires-5
-field-requires-5 c κs = search needs
-
-field-requires-6 : tie.Need-field-requires-6
-field-requires-6 c κs = search needs
+of-requires : tie.Need-of-requires
+of-requires c κs = search needs
 
 returns-6 : tie.Need-returns-6
 returns-6 c =
-    let f = c .before .before .before .before .before .before .before .before .before .before .before in
-    rw (c .before .before .low-bit .ensures, f .before .before .before .before .before .before .before .field .ensures .0, f .before .before .before .before .before .field3 .ensures .0, c .before .field5 .ensures .0, c .field6 .ensures .0)
-    (is-defined (entry-of f) (depth-of f) (clear-there f) (named f) (at-depth (c .before .before .before .before .before .before .before))
-    (in-buffer (c .before .before .before .before .before))
-    (sym (not-false _ (c .before .before .before .if4 .left)) ∙ bank-says (c .before .before .before .before)))
+    let f = c .before .before .before .before .before .before .before .before .before in
+    ap Defined (c .of .ensures)
+    ∙ is-defined (entry-of f) (depth-of f) (clear-there f) (named f) (at-depth (c .before .before .before .before .before))
+    (in-buffer (c .before .before .before))
+    (sym (not-false _ (c .before .if4 .left)) ∙ bank-says (c .before .before))
 
 pub decode-spec : {M : Type 1} → statement M
 decode-spec =
@@ -157,9 +142,8 @@ decode-spec =
     field-requires
     field-requires-2
     field-requires-3
-    field-requires-4
     returns
-    from-number-requires
+    format-of-requires
     enum-known-format
     enum-told
     returns-2
@@ -170,8 +154,5 @@ decode-spec =
     returns-4
     has-bank-requires
     returns-5
-    low-bit-requires
-    cast-t13
-    field-requires-5
-    field-requires-6
+    of-requires
     returns-6)
