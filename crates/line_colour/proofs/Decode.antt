@@ -1,6 +1,6 @@
 -- The tests of the decoder, one after another: what each says of what an entry is, and that a defined entry passes all. Assumes nothing.
 use Prim.Native.Nat.{ℕ}
-use mathlib.Core.Path.{_≡_, refl, sym}
+use mathlib.Core.Path.{_≡_, refl, sym, ap, _∙_}
 use mathlib.Core.Bool.{Bool, true, false, cond, not}
 use borrow.Author.Tests.{eqb-true, eq-eqb, ne-eqb}
 use lib.Dec.{eqb}
@@ -92,3 +92,27 @@ module _ (number depth : ℕ) {entry : WindowEntry} where
           → Passed number depth entry
       by true clear e = passed-as (eqb-true (field number 12 11) 0 clear) (formatOfNumber (field number 3 1)) refl e
       by false clear e = impossible (cc)
+
+module _ (number depth : ℕ) (defined : decoded number depth ≡ Undefined → ⊥) where
+  -- an entry that is not undefined passes every test, and says something
+  some-entry : (entry : WindowEntry) × (decoded number depth ≡ Defined entry)
+  some-entry = by (decoded number depth) refl
+    where
+      -- by what the decoder answers
+      by : (answer : Decoded) → decoded number depth ≡ answer → (entry : WindowEntry) × (decoded number depth ≡ Defined entry)
+      by (Defined entry) is = (entry, is)
+      by Undefined is = absurd (defined is)
+
+  -- it names a format
+  pub names-format : formatOfNumber (field number 3 1) ≡ NoFormat → ⊥
+  names-format none =
+      let names = defined-passed number depth (some-entry .1) .has .named in
+      impossible (cc)
+
+  -- it says what the format that it names says
+  pub says-by-format : {format : Format} → formatOfNumber (field number 3 1) ≡ Is format → decoded number depth ≡ Defined (definedAs number depth format)
+  says-by-format {format} names =
+      let passed = defined-passed number depth (some-entry .1) in
+      let both : Is format ≡ Is (passed .has .format) = sym names ∙ passed .has .named in
+      let same : format ≡ passed .has .format = cc in
+      some-entry .1 ∙ ap Defined (sym (passed .is) ∙ ap (definedAs number depth) (sym same))

@@ -1,10 +1,15 @@
 -- `line::passes::draw_runs` meets its contract: run by run, each into the output from its first pixel on. Assumes nothing.
-use Prim.Native.Nat.{_-_, _≤_}
-use mathlib.Core.Path.{_≡_, sym, subst, _∙_}
+use Prim.Native.Nat.{ℕ, _-_, _≤_}
+use mathlib.Core.Path.{_≡_, sym, ap, subst, _∙_}
 use native.Mathlib.Omega.{arith}
 use borrow.Author.Needs.{needs}
 use denote.Ref.{now}
-use lib.ListN.{length}
+use lib.ListN.{length, getD}
+use Rattle.line_formats.specs.Table.{formatOfNumber}
+use Rattle.line_colour.specs.Entry.{formatOf, definedAs, decoded}
+use Rattle.line_colour.specs.declared.entry.WindowEntry.{WindowEntry}
+use Rattle.line_colour.specs.declared.entry.Decoded.the-variants.{Defined, Undefined}
+use Rattle.line_colour.proofs.Decode.{names-format, says-by-format}
 use Rattle.refusals.specs.declared.Refusal.the-variants.{UndefinedEntry}
 use Rattle.line_windows.specs.declared.ids.LookedUp.the-variants.{Id}
 use Rattle.line_windows.specs.declared.ids.LookedUp.{LookedUp}
@@ -43,20 +48,51 @@ found-served c =
 
 -- where the ID of a run was found
 abbrev told-of : tie.After-run-end Inv-loop μ-loop → tie.After-known-told Inv-loop μ-loop
-told-of c = c .before .before .before .before .before
+told-of c = c .before .before .before .before .before .before .before
+
+-- every pixel has a defined window entry, so that of this ID is not undefined
+not-undefined : (c : tie.After-known-told Inv-loop μ-loop) →
+    let given = start-of (loop-of c) .args in
+    decoded (getD (now (given .store)) (c .before .found .given .0 .0 .id) 0) (given .controls .depth) ≡ Undefined → ⊥
+not-undefined c undefined =
+    let loop = loop-of c in
+    let start = start-of loop in
+    let given = start .args in
+    none-refused (given .controls) (given .screen) (now (given .store)) (now (given .table)) (now (given .normal)) (now (given .overlay)) (given .start) (UndefinedEntry (loop .loop .x)) (loop .loop .x) (start .pre .3) (c .before .before .before .before .if1 .taken)
+    (run-undefined (given .controls) (now (given .store)) (now (given .table)) (given .start) (loop .loop .x) (c .before .found .given .0 .0) (found-served c) undefined)
+
+-- the format that the window entry of this ID names
+format-named : (c : tie.After-format-of Inv-loop μ-loop) →
+    let told = c .before .before in
+    let given = start-of (loop-of told) .args in
+    c .format-of .result ≡ formatOfNumber (formatOf (getD (now (given .store)) (told .before .found .given .0 .0 .id) 0))
+format-named c = c .format-of .ensures ∙ ap (λ (word : ℕ). formatOfNumber (formatOf word)) (c .before .stored-entry .ensures)
+
+-- the window entry of this ID says what is drawn by
+entry-said : (c : tie.After-of Inv-loop μ-loop) →
+    let told = c .before .before .before .before .before .before in
+    let given = start-of (loop-of told) .args in
+    decoded (getD (now (given .store)) (told .before .found .given .0 .0 .id) 0) (given .controls .depth) ≡ Defined (c .of .result)
+entry-said c =
+    let named = c .before .before .before .before in
+    let told = named .before .before in
+    let given = start-of (loop-of told) .args in
+    says-by-format _ _ (not-undefined told) (sym (format-named named) ∙ c .before .before .format .given .1)
+    ∙ ap (λ (entry : WindowEntry). Defined entry)
+    (sym (c .of .ensures ∙ ap (λ (word : ℕ). definedAs word (given .controls .depth) (c .before .before .format .given .0 .0)) (named .before .stored-entry .ensures)))
 
 -- the run of that ID
 run-found : (c : tie.After-run-end Inv-loop μ-loop) →
     let told = told-of c in
     let loop = loop-of told in
     let given = start-of loop .args in
-    RunOf (given .controls) (now (given .store)) (now (given .table)) (given .start) (loop .loop .x) (c .before .before .entry .given .0 .0) (c .run-end .result) (told .before .found .given .0 .0 .next)
+    RunOf (given .controls) (now (given .store)) (now (given .table)) (given .start) (loop .loop .x) (c .before .of .result) (c .run-end .result) (told .before .found .given .0 .0 .next)
 run-found c =
     let told = told-of c in
     let loop = loop-of told in
     let given = start-of loop .args in
     run-of (given .controls) (now (given .store)) (now (given .table)) (given .start) (loop .loop .x) (told .before .found .given .0 .0) (found-served told)
-    (c .before .before .entry .given .0 .0) (c .run-end .result) (sym (c .before .before .before .before .entry-of .ensures) ∙ c .before .before .entry .given .1)
+    (c .before .of .result) (c .run-end .result) (entry-said (c .before))
     (told .before .before .before .before .if1 .taken) (c .run-end .ensures)
 
 -- the output reaches beyond the run's first pixel
@@ -93,34 +129,36 @@ returns c =
     (run-no-id (given .controls) (now (given .store)) (now (given .table)) (given .start) (loop .loop .x) (c .enum-told .given .0 .0)
     (subst (λ (answer : LookedUp). Served (given .controls) (now (given .table)) (given .start) (loop .loop .x) answer) (c .enum-told .given .1) (looked .id-at .ensures))))
 
-entry-of-requires : tie.Need-entry-of-requires Inv-loop μ-loop
-entry-of-requires c κs = (start-of (loop-of c) .pre .2 .store-long, found-served c .0)
+stored-entry-requires : tie.Need-stored-entry-requires Inv-loop μ-loop
+stored-entry-requires c κs = (start-of (loop-of c) .pre .2 .store-long, found-served c .0)
 
-enum-known-entry : tie.Need-enum-known-entry Inv-loop μ-loop
-enum-known-entry c = search needs
+format-of-requires : tie.Need-format-of-requires Inv-loop μ-loop
+format-of-requires c κs = search needs
+
+enum-known-format : tie.Need-enum-known-format Inv-loop μ-loop
+enum-known-format c = search needs
 
 enum-told-2 : tie.Need-enum-told-2 Inv-loop μ-loop
 enum-told-2 c = search needs
 
 same-length-2 : tie.Need-same-length-2 Inv-loop μ-loop
-same-length-2 c = loop-of (c .before .before .before) .loop .inv .long
+same-length-2 c = loop-of (c .before .before .before .before) .loop .inv .long
 
 returns-2 : tie.Need-returns-2 Inv-loop μ-loop
 returns-2 c =
-    let told = c .before .before .before in
-    let loop = loop-of told in
-    let start = start-of loop in
-    let given = start .args in
-    absurd
-    (none-refused (given .controls) (given .screen) (now (given .store)) (now (given .table)) (now (given .normal)) (now (given .overlay)) (given .start) (UndefinedEntry (loop .loop .x)) (loop .loop .x) (start .pre .3) (told .before .before .before .before .if1 .taken)
-    (run-undefined (given .controls) (now (given .store)) (now (given .table)) (given .start) (loop .loop .x) (told .before .found .given .0 .0) (found-served told)
-    (sym (c .before .before .entry-of .ensures) ∙ c .enum-told2 .given .1)))
+    let named = c .before .before in
+    absurd (names-format _ _ (not-undefined (named .before .before)) (sym (format-named named) ∙ c .enum-told2 .given .1))
+
+of-requires : tie.Need-of-requires Inv-loop μ-loop
+of-requires c κs = search needs
 
 run-end-requires : tie.Need-run-end-requires Inv-loop μ-loop
 run-end-requires c κs = search needs
 
 cast-first : tie.Need-cast-first Inv-loop μ-loop
-cast-first c = search needs
+cast-first c =
+    let loop = loop-of (told-of c) in
+    record { fits = omega (arith, start-of loop .pre .0 .width-le, loop .loop .inv .passing .in-range) }
 
 sub-count : tie.Need-sub-count Inv-loop μ-loop
 sub-count c = omega (arith, run-found c .some)
@@ -145,7 +183,7 @@ part-fill-end c = omega arith
 fill-requires : tie.Need-fill-requires Inv-loop μ-loop
 fill-requires c κs =
     let run = run-found (c .before) in
-    let entry = c .before .before .before .entry .given .0 .0 in
+    let entry = c .before .before .of .result in
     let loop = loop-of (told-of (c .before)) in
     let start = start-of loop in
     let given = start .args in (
@@ -174,7 +212,7 @@ loop-again c =
     let loop = loop-of (told-of found) in
     let start = start-of loop in
     let given = start .args in
-    draw-run (given .controls) (given .screen) (now (given .store)) (now (given .table)) (now (given .normal)) (now (given .overlay)) (given .start) (loop .loop .inv) (start .pre .2) (found .before .before .entry .given .0 .0) (run-found found) _ (drawn .fill .ensures)
+    draw-run (given .controls) (given .screen) (now (given .store)) (now (given .table)) (now (given .normal)) (now (given .overlay)) (given .start) (loop .loop .inv) (start .pre .2) (found .before .of .result) (run-found found) _ (drawn .fill .ensures)
 
 same-length-3 : tie.Need-same-length-3 Inv-loop μ-loop
 same-length-3 c = c .before .before .loop .inv .long
@@ -197,11 +235,13 @@ draw-runs-spec =
     enum-told
     same-length
     returns
-    entry-of-requires
-    enum-known-entry
+    stored-entry-requires
+    format-of-requires
+    enum-known-format
     enum-told-2
     same-length-2
     returns-2
+    of-requires
     run-end-requires
     cast-first
     sub-count
