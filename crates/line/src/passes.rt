@@ -4,6 +4,7 @@ ghost use lib.ListN.{length};
 ghost use Rattle.chip_registers.specs.Store.{storeLength};
 ghost use Rattle.line.specs.Cells.{lentOf};
 ghost use Rattle.line.specs.Inner.{InRange, FitsScreen, Entries, EntriesAnswer, Enough, coloured};
+use crate::runs::entry_of;
 use crate::runs::id_at;
 use crate::runs::run_end;
 use crate::runs::stored_entry;
@@ -28,8 +29,7 @@ pub(crate) fn check_runs(controls: Controls, store: &[u32], table: &[u8], start:
         match looked {
             LookedUp::Refused(refusal) => return Answer::Refused(refusal),
             LookedUp::Id(found) => {
-                let word = stored_entry(store, found.id);
-                let says = line_colour::entry::decode(word, controls.depth);
+                let says = entry_of(controls, store, found.id);
                 if let Decoded::Undefined = says {
                     return Answer::Refused(Refusal::UndefinedEntry(x));
                 }
@@ -62,7 +62,7 @@ pub(crate) fn draw_runs(
             // Not taken: the first pass found an ID for every pixel.
             return;
         };
-        // By its format alone, as the first pass found the window entry defined: one that came in an enum would be put together again for each run.
+        // By its format, as the first pass found the window entry defined: the decoder's answer would be put together in memory and taken apart for each run.
         let word = stored_entry(store, found.id);
         let NamedFormat::Is(format) = line_colour::entry::format_of(word) else {
             // Not taken: a defined window entry names a format.

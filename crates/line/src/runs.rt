@@ -3,7 +3,9 @@ ghost use Prim.Native.Nat.{_<_};
 ghost use mathlib.Core.Path.{_≡_};
 ghost use lib.ListN.{length, getD};
 ghost use Rattle.chip_registers.specs.Store.{storeLength};
+ghost use Rattle.line_colour.specs.Entry.{decoded};
 ghost use Rattle.line.specs.Inner.{PassedAt, Served, EndsRun};
+use line_colour::entry::Decoded;
 use line_setup::controls::Controls;
 use line_windows::ids::FoundId;
 use line_windows::ids::LookedUp;
@@ -30,6 +32,14 @@ pub(crate) fn stored_entry(store: &[u32], id: u32) -> u32
 {
     let id = id as usize;
     store[id]
+}
+
+// What the window entry of an ID says.
+pub(crate) fn entry_of(controls: Controls, store: &[u32], id: u32) -> Decoded
+    requires { ⌜ (length (now store) ≡ storeLength) × (id < 32) ⌝ }
+    ensures { λ r. ⌜ r ≡ decoded (getD (now (store .entry)) id 0) (controls .depth) ⌝ }
+{
+    line_colour::entry::decode(stored_entry(store, id), controls.depth)
 }
 
 // The pixel behind a run whose line entry serves pixels up to this one: a run ends with the line.

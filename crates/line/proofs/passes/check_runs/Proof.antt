@@ -1,11 +1,9 @@
 -- `line::passes::check_runs` meets its contract: run by run, to the first refusal. Assumes nothing.
-use Prim.Native.Nat.{ℕ, _-_}
-use mathlib.Core.Path.{_≡_, sym, ap, subst, _∙_}
+use Prim.Native.Nat.{_-_}
+use mathlib.Core.Path.{sym, subst, _∙_}
 use native.Mathlib.Omega.{arith}
 use borrow.Author.Needs.{needs}
 use denote.Ref.{now}
-use lib.ListN.{getD}
-use Rattle.line_colour.specs.Entry.{decoded}
 use Rattle.line_windows.specs.declared.ids.LookedUp.the-variants.{Id}
 use Rattle.line_windows.specs.declared.ids.LookedUp.{LookedUp}
 use Rattle.refusals.specs.declared.Refusal.the-variants.{UndefinedEntry}
@@ -42,27 +40,18 @@ found-served c =
     subst (λ (answer : LookedUp). Served (given .controls) (now (given .table)) (given .start) (loop .loop .x) answer) (c .before .looked2 .given .1)
     (c .before .before .before .id-at .ensures)
 
--- the decoder's answer is about the window entry of that ID
-decoded-stored : (c : tie.After-decode Inv-loop μ-loop) →
-    let told = c .before .before in
-    let given = start-of (loop-of told) .args in
-    c .decode .result ≡ decoded (getD (now (given .store)) (told .before .looked2 .given .0 .0 .id) 0) (given .controls .depth)
-decoded-stored c =
-    let given = start-of (loop-of (c .before .before)) .args in
-    c .decode .ensures ∙ ap (λ (word : ℕ). decoded word (given .controls .depth)) (c .before .stored-entry .ensures)
-
 -- the run of that ID, where its window entry is defined
 run-found : (c : tie.After-run-end Inv-loop μ-loop) →
-    let told = c .before .before .before .before .before in
+    let told = c .before .before .before .before in
     let loop = loop-of told in
     let given = start-of loop .args in
     RunOf (given .controls) (now (given .store)) (now (given .table)) (given .start) (loop .loop .x) (c .before .enum-told2 .given .0 .0) (c .run-end .result) (told .before .looked2 .given .0 .0 .next)
 run-found c =
-    let told = c .before .before .before .before .before in
+    let told = c .before .before .before .before in
     let loop = loop-of told in
     let given = start-of loop .args in
     run-of (given .controls) (now (given .store)) (now (given .table)) (given .start) (loop .loop .x) (told .before .looked2 .given .0 .0) (found-served told)
-    (c .before .enum-told2 .given .0 .0) (c .run-end .result) (sym (decoded-stored (c .before .before .before)) ∙ c .before .enum-told2 .given .1)
+    (c .before .enum-told2 .given .0 .0) (c .run-end .result) (sym (c .before .before .before .entry-of .ensures) ∙ c .before .enum-told2 .given .1)
     (told .before .before .before .before .if1 .taken) (c .run-end .ensures)
 
 loop-holds : tie.Need-loop-holds Inv-loop μ-loop
@@ -86,23 +75,20 @@ returns c =
 enum-known-looked-2 : tie.Need-enum-known-looked-2 Inv-loop μ-loop
 enum-known-looked-2 c = search needs
 
-stored-entry-requires : tie.Need-stored-entry-requires Inv-loop μ-loop
-stored-entry-requires c κs = (start-of (loop-of c) .pre, found-served c .0)
-
-decode-requires : tie.Need-decode-requires Inv-loop μ-loop
-decode-requires c κs = search needs
+entry-of-requires : tie.Need-entry-of-requires Inv-loop μ-loop
+entry-of-requires c κs = (start-of (loop-of c) .pre, found-served c .0)
 
 enum-told : tie.Need-enum-told Inv-loop μ-loop
 enum-told c = search needs
 
 returns-2 : tie.Need-returns-2 Inv-loop μ-loop
 returns-2 c =
-    let told = c .before .before .before .before in
+    let told = c .before .before .before in
     let loop = loop-of told in
     let given = start-of loop .args in
     pass-refused (given .controls) (now (given .store)) (now (given .table)) (given .start) (loop .loop .inv) (UndefinedEntry (loop .loop .x)) (told .before .before .before .before .if1 .taken)
     (run-undefined (given .controls) (now (given .store)) (now (given .table)) (given .start) (loop .loop .x) (told .before .looked2 .given .0 .0) (found-served told)
-    (sym (decoded-stored (c .before .before)) ∙ c .enum-told .given .1))
+    (sym (c .before .before .entry-of .ensures) ∙ c .enum-told .given .1))
 
 enum-told-2 : tie.Need-enum-told-2 Inv-loop μ-loop
 enum-told-2 c = search needs
@@ -114,7 +100,7 @@ loop-less : tie.Need-loop-less Inv-loop μ-loop
 loop-less c = let run = run-found c in omega (arith, run .some, run .within)
 
 loop-again : tie.Need-loop-again Inv-loop μ-loop
-loop-again c = pass-run _ _ _ _ (loop-of (c .before .before .before .before .before) .loop .inv) (run-found c)
+loop-again c = pass-run _ _ _ _ (loop-of (c .before .before .before .before) .loop .inv) (run-found c)
 
 returns-3 : tie.Need-returns-3 Inv-loop μ-loop
 returns-3 c = pass-over _ _ _ _ (c .before .before .loop .inv) (c .if1 .left)
@@ -130,8 +116,7 @@ check-runs-spec =
     enum-known-looked
     returns
     enum-known-looked-2
-    stored-entry-requires
-    decode-requires
+    entry-of-requires
     enum-told
     returns-2
     enum-told-2
