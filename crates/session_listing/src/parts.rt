@@ -22,13 +22,21 @@ pub(crate) struct Parts {
     pub(crate) pixels: usize,
 }
 
+// The letters of `ok`, `at` and `line`, the first in the lowest byte. A word stays in a register, where bytes would be built again for each letter.
+const OK_AT_LINE: u64 = 0x65_6E_69_6C_74_61_6B_6F;
+
+// The letters of `refused`.
+const REFUSED: u64 = 0x64_65_73_75_66_65_72;
+
 // A letter of the words, which stand one behind another.
 pub(crate) fn letter(place: usize) -> u8
     requires { ⌜ place < 15 ⌝ }
     ensures { λ r. ⌜ r ≡ getD listingWords place 0 ⌝ }
 {
-    let words = b"okatlinerefused";
-    words[place]
+    if place < 8 {
+        return ((OK_AT_LINE >> (8 * place)) % 256) as u8;
+    }
+    ((REFUSED >> (8 * (place - 8))) % 256) as u8
 }
 
 // The smaller of two numbers.
