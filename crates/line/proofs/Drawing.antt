@@ -19,7 +19,8 @@ use Rattle.line_pixels.specs.Colour.{overlayCounts, colourOfPixel}
 use Rattle.line_pixels.specs.declared.Screen.{Screen}
 use Rattle.line_setup.specs.declared.controls.Controls.{Controls}
 use Rattle.line.specs.Cells.{Lent, lentOf}
-use Rattle.line.specs.Inner.{InRange, FitsScreen, RunOf, NoRun, Entries, colourBy, colourAt, Enough}
+use Rattle.line.specs.Inner.{InRange, FitsScreen, Entries, colourBy, colourAt, Enough}
+use Rattle.line.proofs.Entries.{RunOf, NoRun}
 use Rattle.line.proofs.Pass.{Passing, pass-start, pass-run}
 
 -- the first of two switches that are both on

@@ -34,7 +34,21 @@ use Rattle.line_windows.proofs.Pixels.{found-serves, refused-serves}
 use Rattle.line_setup.specs.declared.controls.Controls.{Controls}
 use Rattle.line.specs.Cells.{Lent, lentOf, view}
 use Rattle.line.specs.Line.{inTable, startOf, idAt, definedAt, windowEntryAt}
-use Rattle.line.specs.Inner.{PassedAt, Served, EndsRun, RunOf, NoRun, StartAnswer}
+use Rattle.line_pixels.specs.Colour.{SaidAt}
+use Rattle.line.specs.Inner.{Over, PassedAt, Served, EndsRun, StartAnswer}
+
+-- from pixel x to before `end` all pixels have this window entry, and behind them the look-up may go on from line entry `next`
+pub record RunOf (controls : Controls) (store table : List ℕ) (start x : ℕ) (entry : WindowEntry) (end next : ℕ) : Type 0 where
+  pub some : x < end
+  pub within : end ≤ controls .width
+  pub passed : end < controls .width → PassedAt controls table start next end
+  pub said : SaidAt (controls .depth) entry
+  pub all-have : Over store table (λ memory. (p : ℕ) → x ≤ p → p < end → run memory (windowEntryAt controls (length table) start p) ≡ ok entry)
+
+-- pixel x has no defined window entry, for this reason
+abbrev pub NoRun : Controls → List ℕ → List ℕ → ℕ → ℕ → Refusal → Type 0
+NoRun controls store table start x refusal =
+    Over store table (λ memory. run memory (windowEntryAt controls (length table) start x) ≡ refused (numbered refusal))
 
 -- refusals under their own names
 renamed-same : {R A : Type 0} (outcome : Outcome R A) → renamed (λ (refusal : R). refusal) outcome ≡ outcome

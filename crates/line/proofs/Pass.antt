@@ -21,7 +21,8 @@ use Rattle.line_windows.proofs.Pixels.{passed-start}
 use Rattle.line_setup.specs.declared.controls.Controls.{Controls}
 use Rattle.line.specs.Cells.{lentOf, view}
 use Rattle.line.specs.Line.{windowEntryAt}
-use Rattle.line.specs.Inner.{Over, PassedAt, RunOf, NoRun, Entries}
+use Rattle.line.specs.Inner.{Over, PassedAt, Entries}
+use Rattle.line.proofs.Entries.{RunOf, NoRun}
 
 -- the entry of an outcome; any one where it was refused
 abbrev pub entryOf : Outcome Numbered WindowEntry → WindowEntry

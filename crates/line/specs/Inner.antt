@@ -24,7 +24,7 @@ use Rattle.line_windows.specs.declared.frame.LineTable.the-variants.{Starts, Re
 use Rattle.line_windows.specs.declared.ids.LookedUp.{LookedUp}
 use Rattle.line_windows.specs.declared.ids.LookedUp.the-variants.{Id, Refused as NoId}
 use Rattle.line_pixels.specs.Cells.{PixelCell, pixelView}
-use Rattle.line_pixels.specs.Colour.{SaidAt, colourOfPixel}
+use Rattle.line_pixels.specs.Colour.{colourOfPixel}
 use Rattle.line_pixels.specs.declared.Screen.{Screen}
 use Rattle.line_setup.specs.Controls.{widestLine}
 use Rattle.line_setup.specs.Faults.{normalLength, lineFaults}
@@ -64,19 +64,6 @@ Served controls table start x (NoId refusal) =
 -- the pixel behind a run whose line entry serves pixels up to `last`, in a line of so many
 abbrev pub EndsRun : ℕ → ℕ → ℕ → Type 0
 EndsRun width last end = (last < width → end ≡ last + 1) × (width ≤ last → end ≡ width)
-
--- from pixel x to before `end` all pixels have this window entry, and behind them the look-up may go on from line entry `next`
-pub record RunOf (controls : Controls) (store table : List ℕ) (start x : ℕ) (entry : WindowEntry) (end next : ℕ) : Type 0 where
-  pub some : x < end
-  pub within : end ≤ controls .width
-  pub passed : end < controls .width → PassedAt controls table start next end
-  pub said : SaidAt (controls .depth) entry
-  pub all-have : Over store table (λ memory. (p : ℕ) → x ≤ p → p < end → run memory (windowEntryAt controls (length table) start p) ≡ ok entry)
-
--- pixel x has no defined window entry, for this reason
-abbrev pub NoRun : Controls → List ℕ → List ℕ → ℕ → ℕ → Refusal → Type 0
-NoRun controls store table start x refusal =
-    Over store table (λ memory. run memory (windowEntryAt controls (length table) start x) ≡ refused (numbered refusal))
 
 -- every pixel has a defined window entry
 abbrev pub Entries : Controls → List ℕ → List ℕ → ℕ → Type 0

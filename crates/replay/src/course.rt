@@ -18,16 +18,16 @@ pub enum Going {
     Unwritten,
 }
 
-// How far a run is.
+// How far a run is. What is smaller than a word stands last, so that no gap is copied with the rest.
 pub struct Course {
     // Where the bytes of the input that wait start.
     pub from: usize,
     // Where they end.
     pub to: usize,
-    // Whether the file ends with them.
-    pub last: bool,
     // Where the text that waits ends.
     pub put: usize,
+    // Whether the file ends with the bytes that wait.
+    pub last: bool,
     // How the run goes on.
     pub going: Going,
 }

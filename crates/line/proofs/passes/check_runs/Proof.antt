@@ -7,8 +7,8 @@ use denote.Ref.{now}
 use Rattle.line_windows.specs.declared.ids.LookedUp.the-variants.{Id}
 use Rattle.line_windows.specs.declared.ids.LookedUp.{LookedUp}
 use Rattle.refusals.specs.declared.Refusal.the-variants.{UndefinedEntry}
-use Rattle.line.specs.Inner.{Served, RunOf}
-use Rattle.line.proofs.Entries.{run-of, run-undefined, run-no-id}
+use Rattle.line.specs.Inner.{Served}
+use Rattle.line.proofs.Entries.{RunOf, run-of, run-undefined, run-no-id}
 use Rattle.line.proofs.Pass.{Passing, pass-start, pass-refused, pass-over, pass-run}
 use Rattle.line.proofs.passes.check_runs.Statement.{statement}
 use Rattle.line.proofs.passes.check_runs.Tie as tie

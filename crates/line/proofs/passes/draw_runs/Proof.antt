@@ -13,8 +13,8 @@ use Rattle.line_colour.proofs.Decode.{names-format, says-by-format}
 use Rattle.refusals.specs.declared.Refusal.the-variants.{UndefinedEntry}
 use Rattle.line_windows.specs.declared.ids.LookedUp.the-variants.{Id}
 use Rattle.line_windows.specs.declared.ids.LookedUp.{LookedUp}
-use Rattle.line.specs.Inner.{Served, RunOf}
-use Rattle.line.proofs.Entries.{run-of, run-undefined, run-no-id}
+use Rattle.line.specs.Inner.{Served}
+use Rattle.line.proofs.Entries.{RunOf, run-of, run-undefined, run-no-id}
 use Rattle.line.proofs.Drawing.{Drawing, draw-start, draw-run, normal-reaches, overlay-reaches, output-reaches, none-refused}
 use Rattle.line.proofs.passes.draw_runs.Statement.{statement}
 use Rattle.line.proofs.passes.draw_runs.Tie as tie
