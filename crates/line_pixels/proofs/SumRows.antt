@@ -10,10 +10,10 @@ use lib.ListN.{length, getD, take, drop}
 use Rattle.rules.specs.Lists.{filled}
 use Rattle.rules.proofs.Fill.{filled-same, filled-from, filled-length, fill-run}
 
-module _ (lows highs : List ℕ) (columns rows : ℕ) where
+module _ (across down : List ℕ) (columns rows : ℕ) where
   -- sum k: a row for each of the second table, in it a column for each of the first
   abbrev sumOf : ℕ → ℕ
-  sumOf k = getD lows (k % columns) 0 + getD highs (k / columns) 0
+  sumOf k = getD across (k % columns) 0 + getD down (k / columns) 0
 
   -- `now` is what a loop has made of `before` once the rows before this one are made
   pub record Summing (before now : List ℕ) (row : ℕ) : Type 0 where
@@ -39,7 +39,7 @@ module _ (lows highs : List ℕ) (columns rows : ℕ) where
 
     -- one row on, made by a callee that was lent the table from it on
     pub summing-next : (last : List ℕ) → row < rows
-        → last ≡ filled (λ k. getD lows k 0 + getD highs row 0) 0 (take (length now - row * columns) (drop (row * columns) now)) columns
+        → last ≡ filled (λ k. getD across k 0 + getD down row 0) 0 (take (length now - row * columns) (drop (row * columns) now)) columns
         → Summing before (putMid (row * columns) (length now - row * columns) now last) (row + 1)
     summing-next last more made =
         let x = row * columns in
@@ -48,7 +48,7 @@ module _ (lows highs : List ℕ) (columns rows : ℕ) where
         let here : last ≡ filled sumOf x rest (x + columns - x) =
         rw count
         (made
-        ∙ (filled-same (λ k. getD lows k 0 + getD highs row 0) (λ k. sumOf (x + k)) 0 rest columns (λ k low high. let below : k < columns = omega arith in rw (digits-mod row below, digits-div row below))
+        ∙ (filled-same (λ k. getD across k 0 + getD down row 0) (λ k. sumOf (x + k)) 0 rest columns (λ k low high. let below : k < columns = omega arith in rw (digits-mod row below, digits-div row below))
         ∙ filled-from sumOf x rest columns)) in
         let list : putMid x (length now - x) now last ≡ filled sumOf 0 before (x + columns) =
         fill-run sumOf sumOf x (x + columns) before now last (omega arith) (summing .list) here (λ p low high. refl) in

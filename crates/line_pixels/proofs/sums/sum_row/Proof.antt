@@ -10,11 +10,11 @@ use Rattle.line_pixels.proofs.sums.sum_row.Tie as tie
 
 -- the columns before k are made
 abbrev Inv-loop : tie.InvT-loop
-Inv-loop word lows columns sums₀ k₀ sums k = Filling (λ i. getD lows i 0 + word) 0 columns sums₀ sums k
+Inv-loop word across columns sums₀ k₀ sums k = Filling (λ i. getD across i 0 + word) 0 columns sums₀ sums k
 
 -- the columns that are left
 abbrev μ-loop : tie.MeasureT-loop
-μ-loop word lows columns sums₀ k₀ sums k = columns - k
+μ-loop word across columns sums₀ k₀ sums k = columns - k
 
 loop-holds : tie.Need-loop-holds Inv-loop μ-loop
 loop-holds c = fill-start (c .pre .3)

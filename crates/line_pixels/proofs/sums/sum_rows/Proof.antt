@@ -9,11 +9,11 @@ use Rattle.line_pixels.proofs.sums.sum_rows.Tie as tie
 
 -- the rows before this one are made
 abbrev Inv-loop : tie.InvT-loop
-Inv-loop lows highs columns rows sums₀ row₀ sums row = Summing lows highs columns rows sums₀ sums row
+Inv-loop across down columns rows sums₀ row₀ sums row = Summing across down columns rows sums₀ sums row
 
 -- the rows that are left
 abbrev μ-loop : tie.MeasureT-loop
-μ-loop lows highs columns rows sums₀ row₀ sums row = rows - row
+μ-loop across down columns rows sums₀ row₀ sums row = rows - row
 
 -- where the call started
 abbrev start-of : tie.At-loop Inv-loop μ-loop → tie.Start Inv-loop μ-loop
@@ -22,10 +22,10 @@ start-of c = c .before .before
 -- a row is in the table
 in-table : (c : tie.In-loop Inv-loop μ-loop) → let loop = c .before .loop in
     let columns = start-of (c .before) .args .columns in loop .row * columns + columns ≤ length (loop .sums)
-in-table c = let a = start-of (c .before) .args in row-fits (a .lows .now) (a .highs .now) (a .columns) (a .rows) (c .before .loop .inv) (c .loop-test .taken)
+in-table c = let a = start-of (c .before) .args in row-fits (a .across .now) (a .down .now) (a .columns) (a .rows) (c .before .loop .inv) (c .loop-test .taken)
 
 loop-holds : tie.Need-loop-holds Inv-loop μ-loop
-loop-holds c = let a = c .before .args in summing-start (a .lows .now) (a .highs .now) (a .columns) (a .rows) (c .before .pre .4)
+loop-holds c = let a = c .before .args in summing-start (a .across .now) (a .down .now) (a .columns) (a .rows) (c .before .pre .4)
 
 mul-sum-row : tie.Need-mul-sum-row Inv-loop μ-loop
 mul-sum-row c = search needs
@@ -65,13 +65,13 @@ loop-again c =
     let made = c .before .before in
     let turn = made .before .before .before in
     let a = start-of (turn .before) .args in
-    summing-next (a .lows .now) (a .highs .now) (a .columns) (a .rows) (turn .before .loop .inv) _ (turn .loop-test .taken) (made .sum-row .ensures)
+    summing-next (a .across .now) (a .down .now) (a .columns) (a .rows) (turn .before .loop .inv) _ (turn .loop-test .taken) (made .sum-row .ensures)
 
 same-length : tie.Need-same-length Inv-loop μ-loop
 same-length c = c .before .loop .inv .long
 
 returns : tie.Need-returns Inv-loop μ-loop
-returns c = let a = start-of (c .before) .args in summing-over (a .lows .now) (a .highs .now) (a .columns) (a .rows) (c .before .loop .inv) (c .loop-test .left)
+returns c = let a = start-of (c .before) .args in summing-over (a .across .now) (a .down .now) (a .columns) (a .rows) (c .before .loop .inv) (c .loop-test .left)
 
 pub sum-rows-spec : {M : Type 1} → statement M
 sum-rows-spec =
