@@ -55,7 +55,7 @@ module _ (bytes : List ℕ) (all : AllBytes bytes) where
       rw (without-last at (a + m) k, div-one) (sym low ∙ ap (λ (z : ℕ). z % 2 ^ count) (last-bytes at a m))
 
 -- one byte is its 8 bits
-pub one-byte : (bytes : List ℕ) (place : ℕ) → getD bytes place 0 < 256 → bits (bigEndian bytes place 1) 0 8 ≡ getD bytes place 0
+one-byte : (bytes : List ℕ) (place : ℕ) → getD bytes place 0 < 256 → bits (bigEndian bytes place 1) 0 8 ≡ getD bytes place 0
 one-byte bytes place below = rw add-zero (omega arith)
 
 -- a sample starts at a byte's lowest bit

@@ -8,7 +8,7 @@ pub mod CellsInMemory
 pub mod LayersCases
 pub mod Colours
 pub mod RgbRuns
-pub mod MapRuns
+pub mod IndexRuns
 pub mod SumRows
 pub mod PairedRuns
 pub mod PixelShows

@@ -12,11 +12,10 @@ use Rattle.words.specs.Field.{bits}
 use Rattle.words.specs.Bytes.{bigEndian}
 use Rattle.chip_registers.specs.Store.{storeLength}
 use Rattle.line_formats.specs.Table.{widthsOf}
-use Rattle.line_colour.specs.Shown.{sampleOf, shownOf}
+use Rattle.line_colour.specs.Shown.{shownOf}
 use Rattle.line_colour.specs.declared.entry.WindowEntry.{WindowEntry}
-use Rattle.line_colour.specs.declared.entry.Shown.{Shown}
-use Rattle.line_colour.specs.declared.entry.Shown.the-variants.{MapEntry, Colour}
-use Rattle.line_pixels.specs.Cells.{PixelCell, pixelWord, pixelView}
+use Rattle.line_colour.specs.declared.entry.Shown.the-variants.{MapEntry}
+use Rattle.line_pixels.specs.Cells.{PixelCell, pixelView}
 use Rattle.line_pixels.specs.Cursor.{cursorAt}
 use Rattle.line_pixels.specs.Colour.{SaidAt, throughGamma, normalAt, plainAt, overlaid, overlayCounts, underCursor, cursorShown, colourOfPixel}
 use Rattle.line_pixels.specs.declared.Screen.{Screen}
@@ -61,14 +60,13 @@ Among place first count is =
 abbrev pub CountedFrom : WindowEntry → ℕ → Type 0
 CountedFrom entry first = (sample : ℕ) → shownOf entry sample ≡ MapEntry (first + bits sample 0 (widthsOf (entry .format) .bits))
 
--- the number of the map entry that is shown, 0 where a colour is
-abbrev pub entryShown : Shown → ℕ
-entryShown (MapEntry number) = number
-entryShown (Colour colour) = 0
+-- the 12-bit index in two bytes
+abbrev pub indexIn : List ℕ → ℕ → ℕ
+indexIn bytes at = bits (bigEndian bytes at 2) 0 12
 
--- the number of a map entry, counted from entry `first`, in the low bits of m bytes, as many as are used
-abbrev pub entryIn : ℕ → ℕ → ℕ → List ℕ → ℕ → ℕ
-entryIn first used m bytes at = first + bits (bigEndian bytes at m) 0 used
+-- its colour among the words of the map
+abbrev pub indexedColour : List ℕ → List ℕ → ℕ → ℕ
+indexedColour map bytes at = getD map (indexIn bytes at) 0 % 16777216
 
 -- a run filled with plain colours, whatever the overlay row holds
 abbrev pub FilledPlain : ℕ → WindowEntry → List ℕ → List ℕ → ℕ → ℕ → List ℕ → List ℕ → Type 0
@@ -90,23 +88,9 @@ abbrev pub FilledPixels : Screen → WindowEntry → List ℕ → List ℕ → L
 FilledPixels screen entry store normal overlay x count before after =
     after ≡ filled (λ p. value (pixelView store normal overlay) (colourOfPixel screen entry p)) x before count
 
--- a run filled with the map entries that the samples show
-abbrev pub FilledEntries : ℕ → WindowEntry → List ℕ → ℕ → ℕ → List ℕ → List ℕ → Type 0
-FilledEntries depth entry normal x count before after =
-    after ≡ filled (λ p. entryShown (shownOf entry (sampleOf entry (pixelWord depth normal p)))) x before count
-
--- the first `count` words are numbers of map entries
-abbrev pub AllEntries : List ℕ → ℕ → Type 0
-AllEntries words count = (i : ℕ) → i < count → getD words i 0 < 4608
-
 -- the colour of map entry `number`
 abbrev pub mapColour : List ℕ → ℕ → ℕ
 mapColour store number = getD store (32 + number) 0 % 16777216
-
--- the first `count` words changed from numbers of map entries to their colours through gamma, whatever the rows hold
-abbrev pub MappedThrough : List ℕ → List ℕ → ℕ → List ℕ → Type 0
-MappedThrough store before count after =
-    (normal overlay : List ℕ) → after ≡ changed (λ _ number. value (pixelView store normal overlay) (throughGamma false (mapColour store number))) 0 before count
 
 -- the first `count` words gone through gamma, unless they bypass it, whatever the rows hold
 abbrev pub Corrected : List ℕ → Bool → List ℕ → ℕ → List ℕ → Type 0

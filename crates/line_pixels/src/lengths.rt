@@ -5,9 +5,6 @@ ghost use mathlib.Core.Bool.{cond};
 // The shortest run that is drawn layer by layer. A single pixel is drawn by the function that says what any pixel shows.
 pub(crate) const LAYERED_RUN: usize = 2;
 
-// The shortest run of indices past gamma that becomes map entries first.
-const MAPPED_RUN: usize = 40;
-
 // The shortest run of 8-bit samples past gamma for which the colours of all samples are made first.
 const LOOKED_UP_BYPASSED: usize = 64;
 
@@ -31,14 +28,4 @@ pub(crate) fn shortest_looked_up(bypass: bool) -> usize
         return LOOKED_UP_BYPASSED;
     }
     LOOKED_UP_CORRECTED
-}
-
-// The shortest run of indices that becomes map entries first: through gamma it is one for which the gamma map is split too.
-pub(crate) fn shortest_mapped(bypass: bool) -> usize
-    ensures { λ r. ⌜ r ≡ cond bypass 40 128 ⌝ }
-{
-    if bypass {
-        return MAPPED_RUN;
-    }
-    SPLIT_WORDS
 }

@@ -2,9 +2,9 @@
 mod bytes;
 mod correction;
 mod cursor;
-mod entries;
 pub mod fill;
 mod fours;
+mod index_12;
 mod layers;
 mod lengths;
 mod looked_up;

@@ -1,28 +1,26 @@
-// Colours of the map: those of 256 entries, and runs of indices. All but a few indices become the entries that they show, and then their colours.
+// Colours of the map: those of 256 entries, and runs of indices.
 ghost use Prim.Native.Nat.{ℕ, _+_, _≤_, _<_};
 ghost use mathlib.Core.Path.{_≡_};
 ghost use mathlib.Core.Logic.{_⊎_};
 ghost use lib.ListN.{length, getD};
 ghost use Rattle.rules.specs.Rule.{get};
-ghost use Rattle.rules.specs.Lists.{changed};
 ghost use Rattle.chip_registers.specs.Blocks.{count};
 ghost use Rattle.chip_registers.specs.Store.{storeLength};
 ghost use Rattle.line_pixels.specs.Cells.{mapEntry};
 ghost use Rattle.line_pixels.specs.Sampling.{samplingOf};
-ghost use Rattle.line_pixels.specs.Inner.{PlainLent, OverStore, TablesFit, byTables, CountedFrom, mapColour, AllEntries, MappedThrough, FilledPlain};
-use crate::correction::split;
-use crate::correction::through;
-use crate::entries::fill_entries;
-use crate::entries::first_entry;
-use crate::fours::put_four;
+ghost use Rattle.line_pixels.specs.Inner.{PlainLent, OverStore, CountedFrom, mapColour, FilledPlain};
+use crate::index_12::fill_bypassed;
+use crate::index_12::fill_corrected;
+use crate::index_12::is_index_12;
 use crate::layers::mapped;
 use crate::layers::through_gamma;
-use crate::lengths::shortest_mapped;
+use crate::lengths::SPLIT_WORDS;
 use crate::sampling::Sampling;
 use chip_registers::Block;
 use chip_registers::COLOUR_MAP_START;
 use line_colour::entry::WindowEntry;
 use line_formats::Format;
+use line_formats::Index8;
 
 // The 256 colours of the map from entry `first` on.
 pub(crate) fn map_colours(store: &[u32], first: u32, colours: &mut [u32; 256])
@@ -44,58 +42,22 @@ fn entry_colour(store: &[u32], number: u32) -> u32
     store[COLOUR_MAP_START + number as usize] % 16777216
 }
 
-// The first so many words, each the number of a map entry, become its colours.
-fn map_words(store: &[u32], words: &mut [u32], count: usize)
-    requires { ⌜ (length (now store) ≡ storeLength) × AllEntries (now words) count × (count ≤ length (now words)) ⌝ }
-    ensures { λ _. ⌜ now (words .exit) ≡ changed (λ _ number. mapColour (now (store .entry)) number) 0 (now (words .entry)) count ⌝ }
+// The map entry from which the indices under an entry are counted.
+fn first_entry(entry: WindowEntry) -> u32
+    requires { ⌜ (entry .format ≡ Format.Index8) ⊎ (entry .format ≡ Format.Index12) ⌝ }
+    ensures { λ r. ⌜ CountedFrom entry r ⌝ }
 {
-    let mut i = 0;
-    while i + 4 <= count {
-        let first = entry_colour(store, words[i]);
-        let second = entry_colour(store, words[i + 1]);
-        let third = entry_colour(store, words[i + 2]);
-        let fourth = entry_colour(store, words[i + 3]);
-        put_four(words, i, first, second, third, fourth);
-        i += 4;
-    }
-    while i < count {
-        words[i] = entry_colour(store, words[i]);
-        i += 1;
+    let format = entry.format;
+    match format {
+        Format::Index12 => 0,
+        // An 8-bit index is all that is left.
+        Format::Index8 | Format::Rgb332 | Format::Rgb444 | Format::Rgb555 | Format::Rgb888 => {
+            Index8::map_entry(entry.bank, 0)
+        }
     }
 }
 
-// The first so many words, each the number of a map entry, become its colours through three tables.
-fn map_by(
-    store: &[u32],
-    red: &[u32; 256],
-    green: &[u32; 256],
-    blue: &[u32; 256],
-    words: &mut [u32],
-    count: usize,
-)
-    requires { ⌜ (length (now store) ≡ storeLength) × TablesFit (now red) (now green) (now blue) × AllEntries (now words) count × (count ≤ length (now words)) ⌝ }
-    ensures { λ _. ⌜ now (words .exit) ≡ changed (λ _ number. byTables (now (red .entry)) (now (green .entry)) (now (blue .entry)) (mapColour (now (store .entry)) number)) 0 (now (words .entry)) count ⌝ }
-{
-    let mut i = 0;
-    while i < count {
-        words[i] = through(red, green, blue, entry_colour(store, words[i]));
-        i += 1;
-    }
-}
-
-// The first so many words, each the number of a map entry, become its colours through gamma.
-fn map_many(store: &[u32], words: &mut [u32], count: usize)
-    requires { ⌜ (length (now store) ≡ storeLength) × AllEntries (now words) count × (count ≤ length (now words)) ⌝ }
-    ensures { λ _. ⌜ MappedThrough (now (store .entry)) (now (words .entry)) count (now (words .exit)) ⌝ }
-{
-    let mut red = [0; 256];
-    let mut green = [0; 256];
-    let mut blue = [0; 256];
-    split(store, &mut red, &mut green, &mut blue);
-    map_by(store, &red, &green, &blue, words, count);
-}
-
-// A plain run of a few indices, counted from map entry `first`: each colour is worked out for its pixel.
+// A plain run of a few indices, counted from map entry `first`, pixel by pixel.
 fn fill_few(
     depth: u32,
     sampling: Sampling,
@@ -131,24 +93,26 @@ pub(crate) fn fill_mapped(
     requires { ⌜ PlainLent depth entry (now store) (now normal) (x + count) × ((entry .format ≡ Format.Index8) ⊎ (entry .format ≡ Format.Index12)) × (count ≤ length (now out)) ⌝ }
     ensures { λ _. ⌜ FilledPlain depth entry (now (store .entry)) (now (normal .entry)) x count (now (out .entry)) (now (out .exit)) ⌝ }
 {
-    if count < shortest_mapped(entry.bypass) {
-        let first = first_entry(entry);
-        fill_few(
-            depth,
-            Sampling::of(entry),
-            first,
-            store,
-            normal,
-            x,
-            count,
-            out,
-        );
-        return;
+    let format = entry.format;
+    if is_index_12(format) {
+        if entry.bypass {
+            fill_bypassed(depth, entry, store, normal, x, count, out);
+            return;
+        }
+        if SPLIT_WORDS <= count {
+            fill_corrected(depth, entry, store, normal, x, count, out);
+            return;
+        }
     }
-    fill_entries(depth, entry, normal, x, count, out);
-    if entry.bypass {
-        map_words(store, out, count);
-    } else {
-        map_many(store, out, count);
-    }
+    let first = first_entry(entry);
+    fill_few(
+        depth,
+        Sampling::of(entry),
+        first,
+        store,
+        normal,
+        x,
+        count,
+        out,
+    );
 }

@@ -1,12 +1,21 @@
--- `line_pixels::entries::first_entry` meets its contract, format by format. Assumes nothing.
+-- `line_pixels::mapped::first_entry` meets its contract, format by format. Assumes nothing.
+use Prim.Native.Nat.{ℕ}
 use mathlib.Core.Path.{_≡_, refl}
-use mathlib.Core.Logic.{⊎-elim}
+use mathlib.Core.Logic.{_⊎_, inl, inr, ⊎-elim}
+use native.Mathlib.Omega.{arith}
 use borrow.Author.Needs.{needs}
 use Rattle.line_formats.specs.declared.Format.the-variants.{Index8}
 use Rattle.line_pixels.proofs.LayersCases.{shown-index8, shown-index12}
-use Rattle.line_pixels.proofs.MapRuns.{no-second}
-use Rattle.line_pixels.proofs.entries.first_entry.Statement.{statement}
-use Rattle.line_pixels.proofs.entries.first_entry.Tie as tie
+use Rattle.line_pixels.proofs.mapped.first_entry.Statement.{statement}
+use Rattle.line_pixels.proofs.mapped.first_entry.Tie as tie
+
+-- the second format is none of the others
+no-second : (tag : ℕ) → (tag ≡ 0) ⊎ (tag ≡ 2) ⊎ (tag ≡ 3) ⊎ (tag ≡ 4) ⊎ (tag ≡ 5) → tag ≡ 1 → ⊥
+no-second tag (inl e) one = omega arith
+no-second tag (inr (inl e)) one = omega arith
+no-second tag (inr (inr (inl e))) one = omega arith
+no-second tag (inr (inr (inr (inl e)))) one = omega arith
+no-second tag (inr (inr (inr (inr e)))) one = omega arith
 
 -- in the second arm the format is that of 8-bit indices
 is-8 : (c : tie.At-match-keys2) → c .before .args .entry .format ≡ Index8
