@@ -7,7 +7,7 @@ use native.Mathlib.Omega.{arith}
 use borrow.Author.Tests.{lt-leb}
 use lib.ListN.{length, getD, set, take, drop, length-set, length-append}
 use lib.Seq.{take-suc-set}
-use Rattle.chip_queue.specs.Queue.{zeroSlot, HasSlots, waitingIn, full, oldest, pushed, popped}
+use Rattle.chip_queue.specs.Queue.{zeroSlot, HasSlots, waitingIn, full, oldest, pushed, popped, without}
 use Rattle.chip_queue.specs.declared.Waiting.{Waiting}
 use Rattle.chip_queue.specs.declared.Queue.{Queue}
 
@@ -62,6 +62,12 @@ module _ (queue : Queue) (sized : HasSlots queue) where
       by zero slots h l = absurd (omega arith)
       by (suc n) [] h l = absurd (omega arith)
       by (suc n) (a ∷ slots) h l = refl
+
+-- a queue without so many of the oldest writes has as many slots as before
+pub sized-without : (queue : Queue) → HasSlots queue → (count : ℕ) → HasSlots (without queue count)
+unfolding without
+sized-without queue sized zero = sized
+sized-without queue sized (suc count) = sized-popped (without queue count) (sized-without queue sized count)
 
 -- as many wait as the count says
 pub length-waiting : (queue : Queue) → HasSlots queue → queue .waiting ≤ 64 → length (waitingIn queue) ≡ queue .waiting

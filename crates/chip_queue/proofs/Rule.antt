@@ -10,10 +10,8 @@ use lib.ListN.{length, getD, take, drop, length-take, drop-of-length-le}
 use lib.Seq.{drop-cons, getD-take}
 use Rattle.chip_registers.specs.Blocks.{count}
 use Rattle.chip_registers.specs.Kept.{fits}
-use Rattle.chip_registers.specs.Store.{storePlace}
 use Rattle.chip_registers.specs.declared.Block.the-variants.{ColourMap}
-use Rattle.chip_registers.specs.declared.StorePlace.the-variants.{At}
-use Rattle.chip_queue.specs.Waiting.{registerOf, goodWrite, target}
+use Rattle.chip_queue.specs.Waiting.{registerOf, goodWrite}
 use Rattle.chip_queue.specs.Queue.{zeroSlot, waitingIn, pushed, popped, HasSlots}
 use Rattle.chip_queue.specs.Good.{allGood, goodQueue}
 use Rattle.chip_queue.specs.declared.Waiting.{Waiting}
@@ -60,10 +58,6 @@ says-good queue few good = rw (le-leb _ _ few) good
 -- where nothing waits, the rule is kept
 pub none-good : (queue : Queue) → queue .waiting ≡ 0 → goodQueue queue ≡ true
 none-good queue none = says-good queue (omega arith) (ap (λ (count : ℕ). allGood (take count (queue .slots))) none)
-
--- a write goes to the place of its register in the store
-pub target-place : (write : Waiting) → storePlace (registerOf write) ≡ At (target write)
-target-place write = refl
 
 -- a good write goes to a colour entry, with no bits but those that it keeps
 pub write-says : (write : Waiting) → goodWrite write ≡ true

@@ -7,7 +7,6 @@ use Rattle.chip_queue.proofs.Queue.new.Reads as new
 use Rattle.chip_queue.proofs.Queue.room.Reads as room
 use Rattle.chip_queue.proofs.Queue.full.Reads as full
 use Rattle.chip_queue.proofs.Queue.pushed.Reads as pushed
-use Rattle.chip_queue.proofs.Queue.popped.Reads as popped
 use Rattle.chip_queue.proofs.Queue.without.Reads as without
 use Rattle.chip_queue.proofs.Queue.good.Reads as good
 
@@ -34,10 +33,6 @@ full-unique = by-equation _ _
 -- one answer says the queue with one more write
 pub pushed-unique : OneAnswer pushed.Post
 pushed-unique = by-equation _ _
-
--- one answer says the queue without its oldest write
-pub popped-unique : OneAnswer popped.Post
-popped-unique = by-equation _ _
 
 -- one answer says the queue without so many of the oldest writes
 pub without-unique : OneAnswer without.Post

@@ -2,7 +2,7 @@
 ghost use Prim.Native.Nat.{_-_};
 ghost use mathlib.Core.Path.{_≡_};
 ghost use Rattle.chip_queue.specs.Waiting.{goodWrite, target};
-ghost use Rattle.chip_queue.specs.Queue.{emptyQueue, room, full, pushed, popped, without};
+ghost use Rattle.chip_queue.specs.Queue.{emptyQueue, room, full, pushed, without};
 ghost use Rattle.chip_queue.specs.Good.{goodQueue};
 use chip_registers::COLOUR_BITS;
 use chip_registers::COLOUR_MAP_START;
@@ -106,32 +106,23 @@ impl Queue {
         self
     }
 
-    // Without the oldest write: the others move up, and the last slot becomes zero.
-    pub fn popped(mut self) -> Self
-        ensures { λ r. ⌜ r ≡ popped self ⌝ }
-    {
-        let mut i: usize = 0;
-        while i < LAST_SLOT {
-            let next = self.slots[i + 1];
-            self.slots[i] = next;
-            i += 1;
-        }
-        self.slots[LAST_SLOT] = Waiting { word: 0, value: 0 };
-        self.waiting = one_less(self.waiting);
-        self
-    }
-
-    // Without so many of the oldest writes.
-    pub fn without(self, count: u32) -> Self
+    // Without so many of the oldest writes: for each the others move up, and the last slot becomes zero.
+    pub fn without(mut self, count: u32) -> Self
         ensures { λ r. ⌜ r ≡ without self count ⌝ }
     {
-        let mut queue = self;
-        let mut i = 0;
-        while i < count {
-            queue = queue.popped();
-            i += 1;
+        let mut taken = 0;
+        while taken < count {
+            let mut i: usize = 0;
+            while i < LAST_SLOT {
+                let next = self.slots[i + 1];
+                self.slots[i] = next;
+                i += 1;
+            }
+            self.slots[LAST_SLOT] = Waiting { word: 0, value: 0 };
+            self.waiting = one_less(self.waiting);
+            taken += 1;
         }
-        queue
+        self
     }
 
     // Whether at most 64 wait, and every write that waits is good. Slots beyond them do not count.
