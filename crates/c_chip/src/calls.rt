@@ -12,6 +12,7 @@ use crate::numbers::of_read;
 use crate::numbers::report_of_dots;
 use crate::numbers::word_read;
 use c_numbers::Refused;
+use chip::change::QueueChange;
 use chip::state::State;
 use line::request::Request;
 
@@ -73,12 +74,21 @@ pub extern "C" fn bulitampaw_write(
 ) -> WrittenNumbers
     ensures { λ r. ⌜ (r, now (store .exit)) ≡ writtenInNumbers (state, now (store .entry)) address value ⌝ }
 {
-    let written = state.write(store, address, value);
-    let answer = written.answer;
-    let next = written.state;
+    let wrote = state.write_change(store, address, value);
+    let change = wrote.change;
+    let answer = wrote.answer;
+    let refusal = of_answer(answer);
+    let becomes = change.queue;
+    // Apart from the rest, so that a queue that stays is copied once.
+    if let QueueChange::Same = becomes {
+        return WrittenNumbers {
+            state: state.beside_queue(change),
+            refusal,
+        };
+    }
     WrittenNumbers {
-        state: next,
-        refusal: of_answer(answer),
+        state: state.changed(change),
+        refusal,
     }
 }
 
@@ -101,13 +111,24 @@ pub extern "C" fn bulitampaw_read(state: State, store: &[u32], address: u32) -> 
 pub extern "C" fn bulitampaw_dot(state: State, store: &mut [u32]) -> DottedNumbers
     ensures { λ r. ⌜ (r, now (store .exit)) ≡ dottedInNumbers (state, now (store .entry)) ⌝ }
 {
-    let dotted = state.dot(store);
+    let dotted = state.dot_change(store);
+    let change = dotted.change;
     let answer = dotted.answer;
-    let next = dotted.state;
+    let refusal = of_dots(answer);
+    let signals = in_numbers(report_of_dots(answer));
+    let becomes = change.queue;
+    // Apart from the rest, so that a queue that stays is copied once.
+    if let QueueChange::Same = becomes {
+        return DottedNumbers {
+            state: state.beside_queue(change),
+            refusal,
+            signals,
+        };
+    }
     DottedNumbers {
-        state: next,
-        refusal: of_dots(answer),
-        signals: in_numbers(report_of_dots(answer)),
+        state: state.changed(change),
+        refusal,
+        signals,
     }
 }
 
@@ -116,13 +137,24 @@ pub extern "C" fn bulitampaw_dot(state: State, store: &mut [u32]) -> DottedNumbe
 pub extern "C" fn bulitampaw_dots(state: State, store: &mut [u32], count: u32) -> DottedNumbers
     ensures { λ r. ⌜ (r, now (store .exit)) ≡ ranInNumbers (state, now (store .entry)) count ⌝ }
 {
-    let ran = state.dots(store, count);
+    let ran = state.dots_change(store, count);
+    let change = ran.change;
     let answer = ran.answer;
-    let next = ran.state;
+    let refusal = of_dots(answer);
+    let signals = in_numbers(report_of_dots(answer));
+    let becomes = change.queue;
+    // Apart from the rest, so that a queue that stays is copied once.
+    if let QueueChange::Same = becomes {
+        return DottedNumbers {
+            state: state.beside_queue(change),
+            refusal,
+            signals,
+        };
+    }
     DottedNumbers {
-        state: next,
-        refusal: of_dots(answer),
-        signals: in_numbers(report_of_dots(answer)),
+        state: state.changed(change),
+        refusal,
+        signals,
     }
 }
 

@@ -71,14 +71,15 @@ module _ (session : Session) (rooms : Rooms) (lent bytes : List ℕ) (place : �
       ap (λ (all : Left × Outcome Numbered Status). stepLeft all lent)
       (sym (last-clear ((session, place), rooms) (afterStep session rooms bytes place last) (stepFaults session rooms) (textFault (length lent)) (le-ltb (length lent) textRoom long)))
 
-  -- a step and its text, from what the session's step and the putting of its text left
-  pub step-made : {left : Left × Outcome Numbered Status} {put : ℕ × List ℕ} → left ≡ sessionStep session rooms bytes place last
+  -- a step and its text, from what the session's step and the putting of its text left, with the session after it
+  pub step-made : {next : Session} {left : Left × Outcome Numbered Status} {put : ℕ × List ℕ} → next ≡ left .0 .0 .0 → left ≡ sessionStep session rooms bytes place last
       → put ≡ putText (left .1) (left .0 .1 .output) lent → length (left .0 .1 .output) ≡ length (rooms .output) → textRoom ≤ length lent
       → _≡_ {A = SteppedNumbers × (Rooms × List ℕ)}
-      (stepAnswer (left .0 .0) (statusInNumbers (left .1)) (put .0), (left .0 .1, put .1))
+      (stepAnswer (next, left .0 .0 .1) (statusInNumbers (left .1)) (put .0), (left .0 .1, put .1))
       (stepInNumbers session rooms lent bytes place last)
-  step-made {left} {put} stepped text-is same long =
-      ap (λ (one : ℕ × List ℕ). (stepAnswer (left .0 .0) (statusInNumbers (left .1)) (one .0), (left .0 .1, one .1)))
+  step-made {next} {left} {put} is stepped text-is same long =
+      ap (λ (session : Session). (stepAnswer (session, left .0 .0 .1) (statusInNumbers (left .1)) (put .0), (left .0 .1, put .1))) is
+      ∙ ap (λ (one : ℕ × List ℕ). (stepAnswer (left .0 .0) (statusInNumbers (left .1)) (one .0), (left .0 .1, one .1)))
       (text-is
       ∙ text-put (left .0 .1 .output) lent long (left .1)
       (λ status e. omega (arith, same, answered-fitted session rooms bytes place last (ap (λ (all : Left × Outcome Numbered Status). all .1) (sym stepped) ∙ e) .output-long)))

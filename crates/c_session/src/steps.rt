@@ -13,10 +13,10 @@ ghost use Rattle.c_session.specs.Inner.{putEntry, putText, orText};
 use c_numbers::Refused;
 use c_numbers::nothing;
 use c_numbers::refused_by;
+use chip::change::QueueChange;
 use refusals::Answer;
-use refusals::Refusal;
 use session::session::Session;
-use session::step::step;
+use session::step::record_step;
 use session_answers::StepAnswer;
 use session_listing::entry::ListingEntry;
 use session_listing::render::FIRST_LINE_ROOM;
@@ -194,8 +194,12 @@ pub extern "C" fn bulitampaw_step(
             status: STATUS_REFUSED,
         };
     }
-    let stepped = step(
-        session,
+    let state = session.state;
+    let counts = session.counts;
+    let done = record_step(
+        state,
+        counts,
+        session.records,
         bytes,
         place,
         last != 0,
@@ -205,14 +209,34 @@ pub extern "C" fn bulitampaw_step(
         overlay,
         output,
     );
-    let answer = stepped.answer;
+    let change = done.change;
+    let held = done.counts;
+    let answer = done.answer;
     let put = put_text(answer, output, text);
     let status = status_in_numbers(answer);
     let refusal = status.refusal;
-    let next = stepped.session;
+    let becomes = change.queue;
+    // Apart from the rest, so that a queue that stays is copied once.
+    if let QueueChange::Same = becomes {
+        return SteppedNumbers {
+            session: Session {
+                state: state.beside_queue(change),
+                counts: held,
+                records: done.records,
+            },
+            next: done.place,
+            text: put,
+            refusal,
+            status: status.status,
+        };
+    }
     SteppedNumbers {
-        session: next,
-        next: stepped.place,
+        session: Session {
+            state: state.changed(change),
+            counts: held,
+            records: done.records,
+        },
+        next: done.place,
         text: put,
         refusal,
         status: status.status,

@@ -1,4 +1,4 @@
--- A change is known by the state that it leaves. Assumes nothing.
+-- The state after a change: where the queue stays, and that the change is known by it. Assumes nothing.
 use Prim.Native.Nat.{ℕ, _+_, _-_, _<_}
 use mathlib.Core.Path.{_≡_, refl, ap, ap₂, sym, _∙_}
 use mathlib.Core.List.{List}
@@ -11,11 +11,16 @@ use Rattle.chip_queue.specs.declared.Waiting.{Waiting}
 use Rattle.chip_queue.specs.declared.Queue.{Queue}
 use Rattle.chip_queue.proofs.Order.{pushed-is}
 use Rattle.chip_queue.proofs.Slots.{waiting-without}
-use Rattle.chip.specs.Change.{queueBy, changedBy, Tells}
+use Rattle.chip.specs.Change.{besideQueue, queueBy, changedBy, Tells}
 use Rattle.chip.specs.declared.state.State.{State}
 use Rattle.chip.specs.declared.change.QueueChange.{QueueChange}
 use Rattle.chip.specs.declared.change.QueueChange.the-variants.{Same, Joined, Drained}
 use Rattle.chip.specs.declared.change.Change.{Change}
+
+-- where the queue stays, control words and position make the state after a change
+pub queue-stays : (state : State) (change : Change) → change .queue ≡ Same → besideQueue state change ≡ changedBy state change
+queue-stays state change same =
+    ap (λ (queue : QueueChange). record { control = change .control; at = change .at; queue = queueBy (state .queue) queue }) (sym same)
 
 module _ (queue : Queue) where
   -- where a write joins, one more waits

@@ -12,6 +12,10 @@ use Rattle.chip.specs.declared.change.Change.{Change}
 abbrev pub unchanged : State → Change
 unchanged state = record { control = state .control; at = state .at; queue = Same }
 
+-- a state with the control words and the position of a change; the queue stays (CHIP 2.4)
+abbrev pub besideQueue : State → Change → State
+besideQueue state change = record { control = change .control; at = change .at; queue = state .queue }
+
 -- the queue after what becomes of it: as it was, with one more write, or without so many of the oldest (CHIP 3.3, 3.6)
 abbrev pub queueBy : Queue → QueueChange → Queue
 queueBy queue Same = queue

@@ -19,7 +19,6 @@ use Rattle.chip_queue.specs.declared.Queue.{Queue}
 use Rattle.chip.specs.State.{windowsOf}
 use Rattle.chip.specs.Call.{Chip}
 use Rattle.chip.specs.Write.{addressFaults}
-use Rattle.chip.specs.Dot.{oldestApplied}
 use Rattle.chip.specs.Dots.{afterDots}
 use Rattle.chip.specs.declared.state.State.{State}
 use Rattle.chip.specs.declared.pass.Pass.{Pass}
@@ -35,22 +34,16 @@ abbrev pub Judged : Outcome Numbered (Unit {0}) → Named → Verdict → Type 0
 Judged test what (To register) = (test ≡ ok tt) × (what ≡ Is register)
 Judged test what (Refused refusal) = test ≡ refused (numbered refusal)
 
--- so many of the oldest writes are applied, one after the other
-unfoldable pub appliedBy : ℕ → Chip → Chip
-appliedBy zero chip = chip
-appliedBy (suc count) chip = oldestApplied (appliedBy count chip)
-
 -- so many of the oldest writes of a queue in a store, one after the other
 unfoldable pub storedBy : ℕ → Queue → List ℕ → List ℕ
 storedBy zero queue store = store
 storedBy (suc count) queue store =
     let write = oldest (without queue count) in set (storedBy count queue store) (target write) (write .value)
 
--- the chip behind dots that come so far: so many writes are applied, and the beam is there
+-- the chip behind dots that come so far: so many writes have left the queue for the store, and the beam is there
 abbrev pub behind : Chip → Pass → Chip
 behind chip pass =
-    let applied = appliedBy (pass .taken) chip in
-    (record { control = chip .0 .control; at = pass .at; queue = applied .0 .queue }, applied .1)
+    (record { control = chip .0 .control; at = pass .at; queue = without (chip .0 .queue) (pass .taken) }, storedBy (pass .taken) (chip .0 .queue) (chip .1))
 
 -- a walk over some of the dots behind others: those left lead where all lead, and the first of them is blanked
 abbrev pub WalksOn : State → Pass → ℕ → Walk → Type 0

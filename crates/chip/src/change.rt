@@ -2,7 +2,7 @@
 ghost use mathlib.Core.Path.{_≡_};
 ghost use Rattle.chip_queue.specs.Queue.{pushed, without};
 ghost use Rattle.chip.specs.State.{withQueue};
-ghost use Rattle.chip.specs.Change.{unchanged, queueBy, changedBy};
+ghost use Rattle.chip.specs.Change.{unchanged, besideQueue, queueBy, changedBy};
 use crate::state::State;
 use chip_queue::Waiting;
 use chip_timing::Position;
@@ -70,19 +70,27 @@ impl State {
         }
     }
 
-    // The state after a change.
-    pub fn changed(mut self, change: Change) -> Self
-        ensures { λ r. ⌜ r ≡ changedBy self change ⌝ }
+    // With the control words and the position of a change; the queue stays.
+    pub fn beside_queue(mut self, change: Change) -> Self
+        ensures { λ r. ⌜ r ≡ besideQueue self change ⌝ }
     {
         let control = change.control;
         let at = change.at;
-        let queue = change.queue;
         self.control = control;
         self.at = at;
+        self
+    }
+
+    // The state after a change.
+    pub fn changed(self, change: Change) -> Self
+        ensures { λ r. ⌜ r ≡ changedBy self change ⌝ }
+    {
+        let beside = self.beside_queue(change);
+        let queue = change.queue;
         // Apart from the rest, so that a queue that stays is not copied.
         if let QueueChange::Same = queue {
-            return self;
+            return beside;
         }
-        self.queue_changed(queue)
+        beside.queue_changed(queue)
     }
 }

@@ -8,8 +8,8 @@ ghost use Rattle.chip.specs.Dots.{afterDots, ran};
 ghost use Rattle.chip.specs.Inner.{behind, WalksOn};
 use crate::pass::Pass;
 use crate::report::DotsAnswer;
+use crate::report::DotsChange;
 use crate::report::Dotted;
-use crate::report::Ran;
 use crate::report::Report;
 use crate::state::State;
 use chip_timing::Walk;
@@ -56,18 +56,18 @@ impl State {
     }
 
     // What so many dots change.
-    pub fn run(self, store: &mut [u32], count: u32) -> Ran
+    pub fn dots_change(self, store: &mut [u32], count: u32) -> DotsChange
         ensures { λ r. ⌜ (((changedBy self (r .change), now (store .exit)), dotsOutcome (r .answer)) ≡ ran (self, now (store .entry)) count) × Tells (self .queue) (r .change .queue) ⌝ }
     {
         let allowed = self.call_check(store.len());
         if let Answer::Refused(refusal) = allowed {
-            return Ran {
+            return DotsChange {
                 change: self.unchanged(),
                 answer: DotsAnswer::Refused(refusal),
             };
         }
         if count == 0 {
-            return Ran {
+            return DotsChange {
                 change: self.unchanged(),
                 answer: DotsAnswer::Reported(Report::Nothing),
             };
@@ -75,7 +75,7 @@ impl State {
         let before = self.pass(count - 1);
         let signals = self.signals(before.at);
         let pass = self.one_more(before, signals.blank);
-        Ran {
+        DotsChange {
             change: self.passing(store, pass),
             answer: DotsAnswer::Reported(Report::Last(signals)),
         }
@@ -85,7 +85,7 @@ impl State {
     pub fn dots(self, store: &mut [u32], count: u32) -> Dotted
         ensures { λ r. ⌜ ((r .state, now (store .exit)), dotsOutcome (r .answer)) ≡ ran (self, now (store .entry)) count ⌝ }
     {
-        let ran = self.run(store, count);
+        let ran = self.dots_change(store, count);
         let change = ran.change;
         let answer = ran.answer;
         Dotted {

@@ -29,7 +29,7 @@ pub struct Dotted {
 }
 
 // What dots change of the state, and their answer.
-pub struct Ran {
+pub struct DotsChange {
     // what they change
     pub change: Change,
     // what the dots answer

@@ -31,7 +31,7 @@ pub struct Written {
 }
 
 // What a write changes of the state, and its answer.
-pub struct Wrote {
+pub struct WriteChange {
     // what it changes
     pub change: Change,
     // whether the write was done
@@ -107,17 +107,17 @@ impl State {
     }
 
     // What one register write changes.
-    pub fn store_write(self, store: &mut [u32], address: u32, value: u32) -> Wrote
+    pub fn write_change(self, store: &mut [u32], address: u32, value: u32) -> WriteChange
         ensures { λ r. ⌜ (((changedBy self (r .change), now (store .exit)), answerOutcome (r .answer)) ≡ written (self, now (store .entry)) address value) × Tells (self .queue) (r .change .queue) ⌝ }
     {
         let queue = self.queue;
         let verdict = judged(self.call_check(store.len()), address, value, queue.full());
         match verdict {
-            Verdict::To(register) => Wrote {
+            Verdict::To(register) => WriteChange {
                 change: self.put(store, register, value),
                 answer: Answer::Done,
             },
-            Verdict::Refused(refusal) => Wrote {
+            Verdict::Refused(refusal) => WriteChange {
                 change: self.unchanged(),
                 answer: Answer::Refused(refusal),
             },
@@ -128,7 +128,7 @@ impl State {
     pub fn write(self, store: &mut [u32], address: u32, value: u32) -> Written
         ensures { λ r. ⌜ ((r .state, now (store .exit)), answerOutcome (r .answer)) ≡ written (self, now (store .entry)) address value ⌝ }
     {
-        let wrote = self.store_write(store, address, value);
+        let wrote = self.write_change(store, address, value);
         let change = wrote.change;
         let answer = wrote.answer;
         Written {

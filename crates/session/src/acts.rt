@@ -97,7 +97,7 @@ fn write(
     requires { ⌜ records < mostRecords ⌝ }
     ensures { λ r. ⌜ (((leftBy state r, now (store .exit)), stepOutcome (r .answer)) ≡ askedIn (sessionWith state counts records) saysOk (written (state, now (store .entry)) address value)) × Tells (state .queue) (r .change .queue) ⌝ }
 {
-    let wrote = state.store_write(store, address, value);
+    let wrote = state.write_change(store, address, value);
     let change = wrote.change;
     let answer = wrote.answer;
     listed(change, counts, records, entry_of(answer, ListingEntry::Ok))
@@ -108,7 +108,7 @@ fn dots(state: State, counts: Counts, records: u32, store: &mut [u32], count: u3
     requires { ⌜ records < mostRecords ⌝ }
     ensures { λ r. ⌜ (((leftBy state r, now (store .exit)), stepOutcome (r .answer)) ≡ askedIn (sessionWith state counts records) (atPosition (ran (state, now (store .entry)) count .0 .0 .at)) (ran (state, now (store .entry)) count)) × Tells (state .queue) (r .change .queue) ⌝ }
 {
-    let ran = state.run(store, count);
+    let ran = state.dots_change(store, count);
     let change = ran.change;
     let answer = ran.answer;
     let at = change.at;

@@ -1,12 +1,14 @@
 -- `c_chip::calls::bulitampaw_dots` meets its contract: the chip's answer in numbers. Assumes nothing.
-use mathlib.Core.Path.{ap}
+use mathlib.Core.Path.{_∙_}
 use borrow.Author.Needs.{needs}
-use Rattle.c_chip.specs.Calls.{dotsInNumbers, ranInNumbers}
+use Rattle.chip.proofs.Changes.{queue-stays}
+use Rattle.c_chip.specs.Calls.{ranInNumbers}
+use Rattle.c_chip.proofs.Handed.{dots-made}
 use Rattle.c_chip.proofs.calls.bulitampaw_dots.Statement.{statement}
 use Rattle.c_chip.proofs.calls.bulitampaw_dots.Tie as tie
 
-dots-requires : tie.Need-dots-requires
-dots-requires c κs = search needs
+dots-change-requires : tie.Need-dots-change-requires
+dots-change-requires c κs = search needs
 
 of-dots-requires : tie.Need-of-dots-requires
 of-dots-requires c κs = search needs
@@ -17,16 +19,47 @@ report-of-dots-requires c κs = search needs
 in-numbers-requires : tie.Need-in-numbers-requires
 in-numbers-requires c κs = search needs
 
+enum-told : tie.Need-enum-told
+enum-told c = search needs
+
+beside-queue-requires : tie.Need-beside-queue-requires
+beside-queue-requires c κs = search needs
+
 same-length : tie.Need-same-length
 same-length c = search needs
 
 returns : tie.Need-returns
 unfolding ranInNumbers
 returns c =
-    rw (c .in-numbers .ensures, c .before .report-of-dots .ensures, c .before .before .of-dots .ensures)
-    (ap dotsInNumbers (c .before .before .before .before .before .before .dots .ensures))
+    let ran = c .before .before .before .before .before .before .before .before .before .dots-change in
+    let given = c .before .before .before .before .before .before .before .before .before .before .before .before .args in
+    rw (c .before .before .before .in-numbers .ensures, c .before .before .before .before .report-of-dots .ensures, c .before .before .before .before .before .of-dots .ensures)
+    (dots-made (c .beside-queue .ensures ∙ queue-stays (given .state) (ran .result .change) (c .before .enum-told .given .1)) (ran .ensures .0))
+
+changed-requires : tie.Need-changed-requires
+changed-requires c κs = search needs
+
+same-length-2 : tie.Need-same-length-2
+same-length-2 c = search needs
+
+returns-2 : tie.Need-returns-2
+unfolding ranInNumbers
+returns-2 c =
+    rw (c .before .before .in-numbers .ensures, c .before .before .before .report-of-dots .ensures, c .before .before .before .before .of-dots .ensures)
+    (dots-made (c .changed .ensures) (c .before .before .before .before .before .before .before .before .dots-change .ensures .0))
 
 pub bulitampaw-dots-spec : {M : Type 1} → statement M
 bulitampaw-dots-spec =
     tie.close
-    (tie.spec dots-requires of-dots-requires report-of-dots-requires in-numbers-requires same-length returns)
+    (tie.spec
+    dots-change-requires
+    of-dots-requires
+    report-of-dots-requires
+    in-numbers-requires
+    enum-told
+    beside-queue-requires
+    same-length
+    returns
+    changed-requires
+    same-length-2
+    returns-2)

@@ -13,8 +13,8 @@ use Rattle.session.proofs.Asked.{asked-by}
 use Rattle.session.proofs.acts.dots.Statement.{statement}
 use Rattle.session.proofs.acts.dots.Tie as tie
 
-run-requires : tie.Need-run-requires
-run-requires c κs = search needs
+dots-change-requires : tie.Need-dots-change-requires
+dots-change-requires c κs = search needs
 
 entry-of-dots-requires : tie.Need-entry-of-dots-requires
 entry-of-dots-requires c κs = search needs
@@ -30,10 +30,10 @@ returns c =
     let call = c .before .before .before .before .before .before in
     let given = call .before .before .before .args in
     let after = ran (given .state, now (given .store)) (given .count) in
-    asked-by (given .state) (given .counts) (given .records) (atPosition (after .0 .0 .at)) (call .run .result .change) (call .run .last .1 .0) (dotsOutcome (call .run .result .answer)) after
-    (c .listed .ensures) (call .run .ensures)
-    (c .before .entry-of-dots .ensures ∙ ap (λ (left : Chip × Outcome Numbered Report). entryOf (atPosition (left .0 .0 .at)) (dotsOutcome (call .run .result .answer))) (call .run .ensures .0))
+    asked-by (given .state) (given .counts) (given .records) (atPosition (after .0 .0 .at)) (call .dots-change .result .change) (call .dots-change .last .1 .0) (dotsOutcome (call .dots-change .result .answer)) after
+    (c .listed .ensures) (call .dots-change .ensures)
+    (c .before .entry-of-dots .ensures ∙ ap (λ (left : Chip × Outcome Numbered Report). entryOf (atPosition (left .0 .0 .at)) (dotsOutcome (call .dots-change .result .answer))) (call .dots-change .ensures .0))
 
 pub dots-spec : {M : Type 1} → statement M
 dots-spec =
-    tie.close (tie.spec run-requires entry-of-dots-requires listed-requires same-length returns)
+    tie.close (tie.spec dots-change-requires entry-of-dots-requires listed-requires same-length returns)

@@ -8,8 +8,8 @@ use Rattle.session.proofs.Asked.{asked-by}
 use Rattle.session.proofs.acts.write.Statement.{statement}
 use Rattle.session.proofs.acts.write.Tie as tie
 
-store-write-requires : tie.Need-store-write-requires
-store-write-requires c κs = search needs
+write-change-requires : tie.Need-write-change-requires
+write-change-requires c κs = search needs
 
 entry-of-requires : tie.Need-entry-of-requires
 entry-of-requires c κs = search needs
@@ -24,9 +24,9 @@ returns : tie.Need-returns
 returns c =
     let call = c .before .before .before .before .before in
     let given = call .before .before .before .args in
-    asked-by (given .state) (given .counts) (given .records) saysOk (call .store-write .result .change) (call .store-write .last .1 .0) (answerOutcome (call .store-write .result .answer)) (written (given .state, now (given .store)) (given .address) (given .value))
-    (c .listed .ensures) (call .store-write .ensures) (c .before .entry-of .ensures)
+    asked-by (given .state) (given .counts) (given .records) saysOk (call .write-change .result .change) (call .write-change .last .1 .0) (answerOutcome (call .write-change .result .answer)) (written (given .state, now (given .store)) (given .address) (given .value))
+    (c .listed .ensures) (call .write-change .ensures) (c .before .entry-of .ensures)
 
 pub write-spec : {M : Type 1} → statement M
 write-spec =
-    tie.close (tie.spec store-write-requires entry-of-requires listed-requires same-length returns)
+    tie.close (tie.spec write-change-requires entry-of-requires listed-requires same-length returns)

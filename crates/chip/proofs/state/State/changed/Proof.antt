@@ -1,24 +1,31 @@
 -- `chip::state::State::changed` meets its contract: a queue that stays needs no change. Assumes nothing.
-use mathlib.Core.Path.{sym, ap}
+use mathlib.Core.Path.{ap, _∙_}
 use borrow.Author.Needs.{needs}
+use Rattle.chip.specs.State.{withQueue}
 use Rattle.chip.specs.Change.{queueBy}
-use Rattle.chip.specs.declared.change.QueueChange.{QueueChange}
+use Rattle.chip.specs.declared.state.State.{State}
+use Rattle.chip.proofs.Changes.{queue-stays}
 use Rattle.chip.proofs.state.State.changed.Statement.{statement}
 use Rattle.chip.proofs.state.State.changed.Tie as tie
+
+beside-queue-requires : tie.Need-beside-queue-requires
+beside-queue-requires c κs = search needs
 
 enum-told : tie.Need-enum-told
 enum-told c = search needs
 
 returns : tie.Need-returns
 returns c =
-    let a = c .before .before .before .before .args in
-    ap (λ (queue : QueueChange). record { control = a .change .control; at = a .change .at; queue = queueBy (a .self .queue) queue }) (sym (c .enum-told .given .1))
+    let given = c .before .before .before .args in
+    c .before .before .beside-queue .ensures ∙ queue-stays (given .self) (given .change) (c .enum-told .given .1)
 
 queue-changed-requires : tie.Need-queue-changed-requires
 queue-changed-requires c κs = search needs
 
 returns-2 : tie.Need-returns-2
-returns-2 c = search needs
+returns-2 c =
+    let becomes = c .before .before .before .args .change .queue in
+    c .queue-changed .ensures ∙ ap (λ (beside : State). withQueue beside (queueBy (beside .queue) becomes)) (c .before .before .beside-queue .ensures)
 
 pub changed-spec : {M : Type 1} → statement M
-changed-spec = tie.close (tie.spec enum-told returns queue-changed-requires returns-2)
+changed-spec = tie.close (tie.spec beside-queue-requires enum-told returns queue-changed-requires returns-2)

@@ -3,8 +3,8 @@ use borrow.Author.Needs.{needs}
 use Rattle.chip.proofs.state.State.dot.Statement.{statement}
 use Rattle.chip.proofs.state.State.dot.Tie as tie
 
-one-requires : tie.Need-one-requires
-one-requires c κs = search needs
+dot-change-requires : tie.Need-dot-change-requires
+dot-change-requires c κs = search needs
 
 changed-requires : tie.Need-changed-requires
 changed-requires c κs = search needs
@@ -13,7 +13,7 @@ same-length : tie.Need-same-length
 same-length c = search needs
 
 returns : tie.Need-returns
-returns c = rw (c .changed .ensures) (c .before .before .before .before .one .ensures)
+returns c = rw (c .changed .ensures) (c .before .before .before .before .dot-change .ensures .0)
 
 pub dot-spec : {M : Type 1} → statement M
-dot-spec = tie.close (tie.spec one-requires changed-requires same-length returns)
+dot-spec = tie.close (tie.spec dot-change-requires changed-requires same-length returns)

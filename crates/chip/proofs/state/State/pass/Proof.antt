@@ -4,8 +4,9 @@ use mathlib.Core.Path.{_≡_, refl, ap, sym, _∙_}
 use mathlib.Core.List.{List}
 use native.Mathlib.Omega.{arith}
 use borrow.Author.Needs.{needs}
+use Rattle.chip_queue.specs.Queue.{without}
 use Rattle.chip.specs.Dots.{afterDots}
-use Rattle.chip.specs.Inner.{appliedBy, behind}
+use Rattle.chip.specs.Inner.{storedBy, behind}
 use Rattle.chip.proofs.state.State.pass.Statement.{statement}
 use Rattle.chip.proofs.state.State.pass.Tie as tie
 
@@ -19,7 +20,7 @@ abbrev μ-loop : tie.MeasureT-loop
 μ-loop self count pass₀ left₀ pass left = left
 
 loop-holds : tie.Need-loop-holds Inv-loop μ-loop
-unfolding appliedBy
+unfolding without storedBy
 loop-holds c = (omega arith, λ (store : List ℕ). refl)
 
 walk-requires : tie.Need-walk-requires Inv-loop μ-loop

@@ -1,20 +1,20 @@
 -- `chip::state::State::passing` meets its contract: the writes that the dots take are in the store. Assumes nothing.
 use Prim.Native.Nat.{ℕ}
-use mathlib.Core.Path.{ap, _∙_}
+use mathlib.Core.Path.{ap}
 use mathlib.Core.List.{List}
 use native.Mathlib.Omega.{arith}
 use borrow.Author.Needs.{needs}
 use Rattle.chip.specs.Change.{changedBy}
 use Rattle.chip.specs.declared.change.QueueChange.the-variants.{Drained}
 use Rattle.chip.proofs.Good.{good-says}
-use Rattle.chip.proofs.Passes.{none-applied, some-applied}
+use Rattle.chip.proofs.Passes.{none-leave}
 use Rattle.chip.proofs.state.State.passing.Statement.{statement}
 use Rattle.chip.proofs.state.State.passing.Tie as tie
 
 returns : tie.Need-returns
 returns c =
     let given = c .before .before .before .before .args in
-    (none-applied (given .self) (given .store .now) (given .pass) (c .if1 .taken), tt)
+    (none-leave (given .self) (given .store .now) (given .pass) (c .if1 .taken), tt)
 
 apply-requires : tie.Need-apply-requires
 apply-requires c κs =
@@ -28,8 +28,7 @@ returns-2 : tie.Need-returns-2
 returns-2 c =
     let start = c .before .before .before .before .before .before .before .before .before in
     let given = start .args in (
-      ap (λ (store : List ℕ). (changedBy (given .self) (record { control = given .self .control; at = given .pass .at; queue = Drained (given .pass .taken) }), store)) (c .before .before .apply .ensures)
-          ∙ some-applied (given .self) (given .store .now) (given .pass),
+      ap (λ (store : List ℕ). (changedBy (given .self) (record { control = given .self .control; at = given .pass .at; queue = Drained (given .pass .taken) }), store)) (c .before .before .apply .ensures),
       (omega (arith, c .before .before .before .before .before .if1 .left), start .pre .1),
     )
 

@@ -3,8 +3,8 @@ use borrow.Author.Needs.{needs}
 use Rattle.chip.proofs.state.State.write.Statement.{statement}
 use Rattle.chip.proofs.state.State.write.Tie as tie
 
-store-write-requires : tie.Need-store-write-requires
-store-write-requires c κs = search needs
+write-change-requires : tie.Need-write-change-requires
+write-change-requires c κs = search needs
 
 changed-requires : tie.Need-changed-requires
 changed-requires c κs = search needs
@@ -13,7 +13,7 @@ same-length : tie.Need-same-length
 same-length c = search needs
 
 returns : tie.Need-returns
-returns c = rw (c .changed .ensures) (c .before .before .before .before .store-write .ensures .0)
+returns c = rw (c .changed .ensures) (c .before .before .before .before .write-change .ensures .0)
 
 pub write-spec : {M : Type 1} → statement M
-write-spec = tie.close (tie.spec store-write-requires changed-requires same-length returns)
+write-spec = tie.close (tie.spec write-change-requires changed-requires same-length returns)

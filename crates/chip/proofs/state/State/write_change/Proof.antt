@@ -1,4 +1,4 @@
--- `chip::state::State::store_write` meets its contract: it comes to what its verdict brings. Assumes nothing.
+-- `chip::state::State::write_change` meets its contract: it comes to what its verdict brings. Assumes nothing.
 use mathlib.Core.Path.{_≡_, ap, sym, _∙_, subst}
 use borrow.Author.Needs.{needs}
 use Rattle.rules.specs.Rule.{Outcome, ok}
@@ -11,8 +11,8 @@ use Rattle.chip.specs.Write.{writeFaults}
 use Rattle.chip.specs.Inner.{Judged}
 use Rattle.chip.specs.declared.write.Verdict.{Verdict}
 use Rattle.chip.proofs.Writes.{write-tested, write-refused, write-goes, goes-says}
-use Rattle.chip.proofs.state.State.store_write.Statement.{statement}
-use Rattle.chip.proofs.state.State.store_write.Tie as tie
+use Rattle.chip.proofs.state.State.write_change.Statement.{statement}
+use Rattle.chip.proofs.state.State.write_change.Tie as tie
 
 -- the verdict is on the faults of the state and the store that were passed
 judges : (c : tie.After-judged) {judged : Verdict} → c .judged .result ≡ judged
@@ -74,8 +74,8 @@ returns-2 c =
     rw (c .unchanged .ensures)
     (sym (write-refused (given .self, given .store .now) (given .address) (given .value) _ (judges judged-at (verdict-at .verdict2 .given .1))), tt)
 
-pub store-write-spec : {M : Type 1} → statement M
-store-write-spec =
+pub write-change-spec : {M : Type 1} → statement M
+write-change-spec =
     tie.close
     (tie.spec
     call-check-requires

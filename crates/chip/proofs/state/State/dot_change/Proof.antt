@@ -1,17 +1,18 @@
--- `chip::state::State::one` meets its contract: 11, then 5, else what a dot does and reports. Assumes nothing.
+-- `chip::state::State::dot_change` meets its contract: 11, then 5, else what a dot does and reports. Assumes nothing.
 use mathlib.Core.Path.{_≡_, ap, sym, _∙_}
 use borrow.Author.Needs.{needs}
 use Rattle.rules.specs.Rule.{ok}
 use Rattle.refusals.specs.Refusal.{answerOutcome}
 use Rattle.chip_timing.specs.declared.Signals.{Signals}
+use Rattle.chip_queue.specs.Queue.{without}
 use Rattle.chip.specs.Call.{Chip}
 use Rattle.chip.specs.declared.report.Report.the-variants.{Last}
 use Rattle.chip.proofs.CallCheck.{allowed-says}
 use Rattle.chip.specs.Dot.{afterDot, dotted}
-use Rattle.chip.specs.Inner.{appliedBy}
+use Rattle.chip.specs.Inner.{storedBy}
 use Rattle.chip.proofs.Runs.{dot-unfit, dot-done}
-use Rattle.chip.proofs.state.State.one.Statement.{statement}
-use Rattle.chip.proofs.state.State.one.Tie as tie
+use Rattle.chip.proofs.state.State.dot_change.Statement.{statement}
+use Rattle.chip.proofs.state.State.dot_change.Tie as tie
 
 -- a chip that is what one dot more leaves, with the signals found, is what the dot leaves and reports
 made : (c : tie.After-one-more) {after : Chip}
@@ -39,7 +40,7 @@ returns : tie.Need-returns
 returns c =
     let f = c .before .before .before .before in
     rw (c .unchanged .ensures)
-    (sym (dot-unfit (f .before .before .args .self, f .before .before .args .store .now) _ (sym (f .call-check .ensures) ∙ ap answerOutcome (c .before .before .allowed .given .1))))
+    (sym (dot-unfit (f .before .before .args .self, f .before .before .args .store .now) _ (sym (f .call-check .ensures) ∙ ap answerOutcome (c .before .before .allowed .given .1))), tt)
 
 enum-told : tie.Need-enum-told
 enum-told c = search needs
@@ -61,15 +62,15 @@ same-length : tie.Need-same-length
 same-length c = search needs
 
 returns-2 : tie.Need-returns-2
-unfolding appliedBy
+unfolding without storedBy
 returns-2 c =
     let done = c .before .before in
     let one = done .before .before in
     let given = one .before .before .before .before .before .before .before .args in
-    made one (done .passing .ensures .0 ∙ one .one-more .ensures .1 (given .store .now))
+    (made one (done .passing .ensures .0 ∙ one .one-more .ensures .1 (given .store .now)), done .passing .ensures .1)
 
-pub one-spec : {M : Type 1} → statement M
-one-spec =
+pub dot-change-spec : {M : Type 1} → statement M
+dot-change-spec =
     tie.close
     (tie.spec
     call-check-requires

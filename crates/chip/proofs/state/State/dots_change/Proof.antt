@@ -1,4 +1,4 @@
--- `chip::state::State::run` meets its contract: 11, then 5, else all dots but the last, and then the last. Assumes nothing.
+-- `chip::state::State::dots_change` meets its contract: 11, then 5, else all dots but the last, and then the last. Assumes nothing.
 use mathlib.Core.Path.{_≡_, ap, sym, _∙_}
 use borrow.Author.Needs.{needs}
 use Rattle.rules.specs.Rule.{ok}
@@ -11,8 +11,8 @@ use Rattle.chip.specs.Dot.{signalsOf, afterDot}
 use Rattle.chip.specs.Dots.{ran}
 use Rattle.chip.specs.Inner.{behind}
 use Rattle.chip.proofs.Runs.{dots-unfit, dots-none, dots-some}
-use Rattle.chip.proofs.state.State.run.Statement.{statement}
-use Rattle.chip.proofs.state.State.run.Tie as tie
+use Rattle.chip.proofs.state.State.dots_change.Statement.{statement}
+use Rattle.chip.proofs.state.State.dots_change.Tie as tie
 
 -- a chip that is what the last dot leaves, with the signals found, is what the run leaves and reports
 made : (c : tie.After-one-more) {after : Chip}
@@ -91,8 +91,8 @@ returns-3 c =
     let given = one .before .before .before .before .before .before .before .before .args in
     (made one (done .passing .ensures .0 ∙ one .one-more .ensures .1 (given .store .now)), done .passing .ensures .1)
 
-pub run-spec : {M : Type 1} → statement M
-run-spec =
+pub dots-change-spec : {M : Type 1} → statement M
+dots-change-spec =
     tie.close
     (tie.spec
     call-check-requires
