@@ -30,12 +30,6 @@ module _ {A : Type 0} (change : ℕ → A → A) (none : A) where
   unchanged (suc count) from (a ∷ list) zero h = absurd (not-suc-le-zero h)
   unchanged (suc count) from (a ∷ list) (suc place) h = unchanged count (suc from) list place (omega arith)
 
-  -- a list changed so is as long as it was
-  changed-length : (count from : ℕ) (list : List A) → length (changed change from list count) ≡ length list
-  changed-length count from [] = refl
-  changed-length zero from (a ∷ list) = refl
-  changed-length (suc count) from (a ∷ list) = ap suc (changed-length count (suc from) list)
-
 -- where elements stay as they are, it doesn't matter whether they are changed
 changed-upto : {A : Type 0} (change : ℕ → A → A) (from : ℕ) (list : List A) (m n : ℕ) → m ≤ n
     → ((p : ℕ) → from + m ≤ p → p < from + n → (a : A) → change p a ≡ a) → changed change from list m ≡ changed change from list n

@@ -18,9 +18,9 @@ use Rattle.line.specs.Request.{requestOf}
 use Rattle.line.specs.Drawn.{drawn}
 use Rattle.session.specs.Record.{entryOf, atPosition}
 use Rattle.session.specs.Lent.{Rooms, roomsOf, countsOf, heldIn}
-use Rattle.session.specs.Inner.{withCounts, counted, askedIn, HeldWithin, actedIn}
+use Rattle.session.specs.Inner.{counted, askedIn, HeldWithin, actedIn}
 use Rattle.session.specs.declared.session.Session.{Session}
-use Rattle.session.proofs.Rooms.{back, back-chip, back-line, back-table, back-normal, back-overlay}
+use Rattle.session.proofs.Rooms.{withCounts, back, back-chip, back-line, back-table, back-normal, back-overlay}
 
 -- what is left, and what it comes to
 abbrev Result : Type 0

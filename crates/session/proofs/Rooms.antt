@@ -6,10 +6,15 @@ use native.Mathlib.Nat.{zero-add}
 use lib.ListN.{length, take, drop, length-append, take-append-drop}
 use lib.Seq.{paste, length-take-le, take-length}
 use Rattle.chip.specs.Call.{Chip}
+use Rattle.session_rooms.specs.declared.Counts.{Counts}
 use Rattle.session.specs.Held.{withChip, withTable, withNormal, withOverlay, withLine}
 use Rattle.session.specs.Lent.{Rooms, roomsOf, countsOf, heldIn, laid, leftIn}
-use Rattle.session.specs.Inner.{withState, withCounts, counted, HeldWithin}
+use Rattle.session.specs.Inner.{withState, counted, HeldWithin}
 use Rattle.session.specs.declared.session.Session.{Session}
+
+-- a session with so many bytes of table and rows
+abbrev pub withCounts : Session → Counts → Session
+withCounts session counts = record { state = session .state; counts = counts; records = session .records }
 
 -- bytes of a room at its front change nothing
 laid-same : (room : List ℕ) (count : ℕ) → count ≤ length room → laid room (take count room) ≡ room

@@ -25,10 +25,6 @@ use Rattle.session.specs.declared.acts.Acted.{Acted}
 abbrev pub withState : Session → State → Session
 withState session state = record { state = state; counts = session .counts; records = session .records }
 
--- a session with so many bytes of table and rows
-abbrev pub withCounts : Session → Counts → Session
-withCounts session counts = record { state = session .state; counts = counts; records = session .records }
-
 -- a session after one more record
 abbrev pub counted : Session → Session
 counted session = record { state = session .state; counts = session .counts; records = session .records + 1 }

@@ -14,8 +14,9 @@ use Rattle.session_answers.specs.Status.{Status, listed}
 use Rattle.session_rooms.specs.declared.Counts.{Counts}
 use Rattle.session.specs.Lent.{Rooms, roomsOf, countsOf}
 use Rattle.session.specs.Done.{sessionWith}
-use Rattle.session.specs.Inner.{withCounts, counted, BodyFits, actedIn}
+use Rattle.session.specs.Inner.{counted, BodyFits, actedIn}
 use Rattle.session.specs.declared.session.Session.{Session}
+use Rattle.session.proofs.Rooms.{withCounts}
 use Rattle.session.proofs.Records.{acts-end, acts-write, acts-dots, acts-table, acts-normal, acts-overlay, acts-line}
 use Rattle.session.proofs.acts.act.Statement.{statement}
 use Rattle.session.proofs.acts.act.Tie as tie
