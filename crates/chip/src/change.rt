@@ -70,7 +70,7 @@ impl State {
         }
     }
 
-    // With the control words and the position of a change; the queue stays.
+    // The state with the control words and the position of a change; the queue stays.
     pub fn beside_queue(mut self, change: Change) -> Self
         ensures { λ r. ⌜ r ≡ besideQueue self change ⌝ }
     {

@@ -11,7 +11,6 @@ use Rattle.rules.specs.Each.{each}
 use Rattle.rules.specs.Faults.{Numbered}
 use Rattle.rules.specs.Checked.{verdict}
 use Rattle.refusals.specs.Refusal.{numbered}
-use Rattle.refusals.specs.declared.Refusal.{Refusal}
 use Rattle.refusals.specs.declared.Answer.the-variants.{Done, Refused as Unfit}
 use Rattle.refusals.specs.declared.Answer.{Answer}
 use Rattle.line_colour.specs.declared.entry.WindowEntry.{WindowEntry}

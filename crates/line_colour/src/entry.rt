@@ -50,7 +50,7 @@ fn low_bit(depth: u32, buffer: u32) -> u32
     if buffer == 0 { 0 } else { depth / 2 }
 }
 
-// The format of an entry, defined or not.
+// The format that an entry names, if any, whether the entry is defined or not.
 pub fn format_of(entry: u32) -> NamedFormat
     ensures { λ r. ⌜ r ≡ formatOfNumber (formatOf entry) ⌝ }
 {
@@ -84,7 +84,7 @@ pub fn decode(entry: u32, depth: u32) -> Decoded
 }
 
 impl WindowEntry {
-    // What an entry of this format says at a depth where it is defined.
+    // What an entry says at a depth, if it has this format and is defined there; neither is tested.
     pub fn of(format: Format, entry: u32, depth: u32) -> Self
         ensures { λ r. ⌜ r ≡ definedAs entry depth format ⌝ }
     {

@@ -64,7 +64,7 @@ CountedFrom entry first = (sample : ℕ) → shownOf entry sample ≡ MapEntry (
 abbrev pub indexIn : List ℕ → ℕ → ℕ
 indexIn bytes at = bits (bigEndian bytes at 2) 0 12
 
--- its colour among the words of the map
+-- the colour of that index, the 24 low bits of its word of the map
 abbrev pub indexedColour : List ℕ → List ℕ → ℕ → ℕ
 indexedColour map bytes at = getD map (indexIn bytes at) 0 % 16777216
 

@@ -18,7 +18,7 @@ pub enum Going {
     Unwritten,
 }
 
-// How far a run is. What is smaller than a word stands last, so that no gap is copied with the rest.
+// How far a run is. What is smaller than a word stands last, so that there is no gap between the fields.
 pub struct Course {
     // Where the bytes of the input that wait start.
     pub from: usize,

@@ -22,7 +22,7 @@ pub(crate) struct Parts {
     pub(crate) pixels: usize,
 }
 
-// The letters of `ok`, `at` and `line`, the first in the lowest byte. A word stays in a register, where bytes would be built again for each letter.
+// The letters of `ok`, `at` and `line`, the first in the lowest byte. A number stays in a register; bytes would be put in memory again for each letter.
 const OK_AT_LINE: u64 = 0x65_6E_69_6C_74_61_6B_6F;
 
 // The letters of `refused`.
