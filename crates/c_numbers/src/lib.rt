@@ -1,4 +1,6 @@
 // Answers in plain numbers, as C takes them.
+#![tactic(auto)]
+
 ghost use Rattle.std.specs.Prelude.{◌≡◌};
 ghost use Rattle.refusals.specs.Refusal.{numbered};
 ghost use Rattle.c_numbers.specs.Numbers.{yes_no, nothing, refused_by};

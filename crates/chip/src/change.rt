@@ -9,7 +9,7 @@ use chip_queue::Waiting;
 use chip_timing::Position;
 
 // What becomes of the queue.
-#[derive(Drop)]
+#[derive(Clone, Copy)]
 pub enum QueueChange {
     // it stays
     Same,
@@ -20,7 +20,7 @@ pub enum QueueChange {
 }
 
 // What becomes of the state.
-#[derive(Drop)]
+#[derive(Clone, Copy)]
 pub struct Change {
     // the control words after the call
     pub control: [u32; 9],

@@ -1,4 +1,6 @@
 // The chip: its state, register writes and reads, and dots.
+#![tactic(auto)]
+
 pub mod change;
 pub mod dot;
 pub mod dots;

@@ -14,7 +14,7 @@ use chip_queue::Queue;
 use chip_timing::Position;
 
 // How far some dots come.
-#[derive(Drop)]
+#[derive(Clone, Copy)]
 pub(crate) struct Pass {
     // where the beam is
     pub(crate) at: Position,

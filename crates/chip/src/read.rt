@@ -11,7 +11,7 @@ use chip_timing::Position;
 use refusals::{Answer, Refusal};
 
 // What a read answers.
-#[derive(Drop)]
+#[derive(Clone, Copy)]
 pub enum ReadAnswer {
     // this word is what the register shows
     Word(u32),

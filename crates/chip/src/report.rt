@@ -5,7 +5,7 @@ use chip_timing::Signals;
 use refusals::Refusal;
 
 // What the last of some dots reported.
-#[derive(Drop)]
+#[derive(Clone, Copy)]
 pub enum Report {
     // there was no dot
     Nothing,
@@ -14,7 +14,7 @@ pub enum Report {
 }
 
 // What dots answer.
-#[derive(Drop)]
+#[derive(Clone, Copy)]
 pub enum DotsAnswer {
     // they were made, and this is their report
     Reported(Report),

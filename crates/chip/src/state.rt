@@ -12,7 +12,7 @@ use refusals::{Answer, Refusal};
 
 // All that the chip holds besides the store.
 #[repr(C)]
-#[derive(Drop)]
+#[derive(Clone, Copy)]
 pub struct State {
     // control words 0 to 8, which are stored
     pub control: [u32; 9],

@@ -1,4 +1,6 @@
 // The queue of colour writes: up to 64 that wait, the oldest first.
+#![tactic(auto)]
+
 ghost use Rattle.std.specs.Prelude.{◌-◌, ◌≡◌};
 ghost use Rattle.chip_queue.specs.Waiting.{good_write, target};
 ghost use Rattle.chip_queue.specs.Queue.{empty_queue, room, full, pushed, without};
@@ -20,7 +22,7 @@ const COLOURS: u32 = 1 << COLOUR_BITS;
 
 // A colour write that waits.
 #[repr(C)]
-#[derive(Drop)]
+#[derive(Clone, Copy)]
 pub struct Waiting {
     // the word of the colour map that it is for
     pub word: u32,
@@ -30,7 +32,7 @@ pub struct Waiting {
 
 // The writes that wait stand in the first `waiting` slots, the oldest in slot 0.
 #[repr(C)]
-#[derive(Drop)]
+#[derive(Clone, Copy)]
 pub struct Queue {
     // how many writes wait
     pub waiting: u32,

@@ -1,4 +1,6 @@
 // The register map: what an address names, which bits a register keeps, where it stands in the store, and whether it can be written and its writes wait.
+#![tactic(auto)]
+
 ghost use Rattle.std.specs.Prelude.{◌≤◌, ◌≡◌, [], ◌∷◌};
 ghost use Rattle.chip_registers.specs.Blocks.{blocks, row_of, start, count};
 ghost use Rattle.chip_registers.specs.Named.{address_place, among, named};
@@ -49,7 +51,7 @@ pub const CURSOR_COLOURS_START: usize = GAMMA_MAP_END + CURSOR_GLYPH_WORDS as us
 pub const STORE_WORDS: usize = CURSOR_COLOURS_START + CURSOR_COLOURS as usize;
 
 // The blocks of registers, in the order of the table.
-#[derive(Drop)]
+#[derive(Clone, Copy)]
 pub enum Block {
     // the control words: they are the state's
     Control,
@@ -90,7 +92,7 @@ pub struct BlockRow {
 }
 
 // A register.
-#[derive(Drop)]
+#[derive(Clone, Copy)]
 pub struct Register {
     // the block that it is in
     pub block: Block,

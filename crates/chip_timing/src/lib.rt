@@ -1,4 +1,6 @@
 // Timing: the circular window, the signals of a position, its moves, and the walk to the next blanked one.
+#![tactic(auto)]
+
 ghost use Rattle.std.specs.Prelude.{ℕ, ◌+◌, ◌≤◌, ◌<◌, min, ◌≡◌, false, ◌&&◌};
 ghost use Rattle.words.specs.Field.{field};
 ghost use Rattle.chip_timing.specs.Window.{in_window};
@@ -42,7 +44,7 @@ fn is_empty(word: u32) -> bool
 
 // Where the beam is.
 #[repr(C)]
-#[derive(Drop)]
+#[derive(Clone, Copy)]
 pub struct Position {
     // which dot of the line, from 0 on
     pub x: u32,
@@ -110,7 +112,7 @@ impl Position {
 }
 
 // What a position reports.
-#[derive(Drop)]
+#[derive(Clone, Copy)]
 pub struct Signals {
     // whether horizontal sync holds
     pub hsync: bool,
@@ -130,7 +132,7 @@ pub struct Walk {
 }
 
 // Control words 2 to 5: a window each.
-#[derive(Drop)]
+#[derive(Clone, Copy)]
 pub struct Windows {
     // control word 2: horizontal sync, by x
     pub hsync: u32,

@@ -1,4 +1,6 @@
 // One drawn line.
+#![tactic(auto)]
+
 pub mod draw;
 mod passes;
 pub mod request;

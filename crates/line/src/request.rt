@@ -2,7 +2,7 @@
 use chip::state::State;
 
 // The state that the line goes by, and which line it is.
-#[derive(Drop)]
+#[derive(Clone, Copy)]
 pub struct Request {
     // The chip's state, which is handed back as it was.
     pub state: State,

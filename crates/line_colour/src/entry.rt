@@ -8,7 +8,7 @@ use line_formats::{Format, Index8, Index12, NamedFormat, Rgb332, Rgb444, Rgb555,
 use words::Rgb;
 
 // What a defined entry says.
-#[derive(Drop)]
+#[derive(Clone, Copy)]
 pub struct WindowEntry {
     // The format of its pixels.
     pub format: Format,

@@ -1,4 +1,6 @@
 // Pixel formats: a type for each, with its bits.
+#![tactic(auto)]
+
 mod channel;
 
 ghost use Rattle.std.specs.Prelude.{◌≡◌};
@@ -152,7 +154,7 @@ pub struct Widths {
 }
 
 // How much of a pixel a format uses at a depth.
-#[derive(Drop)]
+#[derive(Clone, Copy)]
 pub enum Part {
     // Half of it, so that it has two buffers.
     Half,
@@ -187,7 +189,7 @@ impl Part {
 }
 
 // The formats that the table lists.
-#[derive(Drop)]
+#[derive(Clone, Copy)]
 pub enum Format {
     // 0: an 8-bit index within a bank of the map.
     Index8,

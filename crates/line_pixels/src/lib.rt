@@ -1,4 +1,6 @@
 // Pixels: the colour that each pixel of a line shows, and runs of them.
+#![tactic(auto)]
+
 mod bytes;
 mod correction;
 mod cursor;
@@ -18,7 +20,7 @@ mod store;
 mod sums;
 
 // What every pixel of a line goes by: what the control words say, and which line it is.
-#[derive(Drop)]
+#[derive(Clone, Copy)]
 pub struct Screen {
     // Whether overlay is on.
     pub overlay: bool,

@@ -9,7 +9,7 @@ use crate::layers::pixel_word;
 use line_colour::entry::WindowEntry;
 
 // An entry with the bits of its samples.
-#[derive(Drop)]
+#[derive(Clone, Copy)]
 pub(crate) struct Sampling {
     // What the window entry says.
     pub entry: WindowEntry,

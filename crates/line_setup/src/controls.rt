@@ -4,7 +4,7 @@ ghost use Rattle.words.specs.Field.{field};
 ghost use Rattle.line_setup.specs.Controls.{switch, depth_of, controls_of};
 
 // The fields of the control words that a line goes by. Sizes and totals are the fields plus 1.
-#[derive(Drop)]
+#[derive(Clone, Copy)]
 pub struct Controls {
     // Whether overlay is on.
     pub overlay: bool,

@@ -2,7 +2,7 @@
 use crate::controls::Controls;
 
 // How much is lent.
-#[derive(Drop)]
+#[derive(Clone, Copy)]
 pub struct Lengths {
     // Words of the store.
     pub store: usize,
@@ -17,7 +17,7 @@ pub struct Lengths {
 }
 
 // What a line goes by.
-#[derive(Drop)]
+#[derive(Clone, Copy)]
 pub struct Setup {
     // Whether the state keeps its rule.
     pub good: bool,

@@ -1,4 +1,6 @@
 // Window IDs: the table that gives each pixel of a line its ID.
+#![tactic(auto)]
+
 pub mod frame;
 pub mod ids;
 

@@ -1,10 +1,12 @@
 // The refusals of every call on the chip and of a session's records, and the paper's number and place of each.
+#![tactic(auto)]
+
 ghost use Rattle.std.specs.Prelude.{◌≡◌};
 ghost use Rattle.refusals.specs.Refusal.{refusal_number, refusal_place};
 
 // Why a call is refused. NoRegister to QueueFull hold the address, 24 bits of it; BelowActive and NoFrameEntry the line; NoLineEntry and
 // UndefinedEntry the pixel; WrongRecord, FileEnds and TooMuch the record's number.
-#[derive(Drop)]
+#[derive(Clone, Copy)]
 pub enum Refusal {
     // no register stands at the address
     NoRegister(u32),

@@ -1,4 +1,6 @@
 // What a step of a session answers, and what that asks of whoever called it.
+#![tactic(auto)]
+
 ghost use Rattle.std.specs.Prelude.{◌≡◌};
 ghost use Rattle.session_answers.specs.Answers.{adds, over};
 
@@ -6,7 +8,7 @@ use refusals::Refusal;
 use session_listing::entry::ListingEntry;
 
 // What a step answers.
-#[derive(Drop)]
+#[derive(Clone, Copy)]
 pub enum StepAnswer {
     // A record was run, and this is its entry in the listing.
     Listed(ListingEntry),

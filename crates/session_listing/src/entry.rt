@@ -2,7 +2,7 @@
 use refusals::Refusal;
 
 // One entry of the listing.
-#[derive(Drop)]
+#[derive(Clone, Copy)]
 pub enum ListingEntry {
     // What was asked is done.
     Ok,

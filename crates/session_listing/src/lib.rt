@@ -1,4 +1,6 @@
 // The listing of a session, as text.
+#![tactic(auto)]
+
 pub mod entry;
 mod parts;
 mod pixel_lines;

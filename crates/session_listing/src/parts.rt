@@ -6,7 +6,7 @@ ghost use Rattle.session_listing.specs.Inner.{listing_words, PartsOf};
 use crate::entry::ListingEntry;
 
 // A first line: its word, and the numbers behind it. And how many pixels follow.
-#[derive(Drop)]
+#[derive(Clone, Copy)]
 pub(crate) struct Parts {
     // Where the word starts among the words.
     pub(crate) from: usize,

@@ -1,4 +1,6 @@
 // The reader: bytes that are lent, with a place in them.
+#![tactic(auto)]
+
 ghost use Rattle.std.specs.Prelude.{◌≡◌, drop};
 ghost use Rattle.session_records.specs.RecordAt.{record_at};
 

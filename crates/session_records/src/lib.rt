@@ -1,4 +1,6 @@
 // The records of a session file: what stands at a place of lent bytes.
+#![tactic(auto)]
+
 mod faults;
 mod parts;
 pub mod record;

@@ -27,7 +27,7 @@ pub enum Record {
 }
 
 // What a record is judged by besides its bytes.
-#[derive(Drop)]
+#[derive(Clone, Copy)]
 pub struct Context {
     // Its number: how many records stand before it.
     pub number: u32,

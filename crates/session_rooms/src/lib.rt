@@ -1,4 +1,6 @@
 // What a step of a session is lent: how much is held, and how long each room is.
+#![tactic(auto)]
+
 ghost use Rattle.std.specs.Prelude.{◌≡◌};
 ghost use Rattle.rules.specs.Checked.{verdict};
 ghost use Rattle.refusals.specs.Refusal.{answer_outcome};
@@ -13,7 +15,7 @@ pub const LONGEST_LINE: usize = 2048;
 
 // How many bytes of the lent table and rows are there.
 #[repr(C)]
-#[derive(Drop)]
+#[derive(Clone, Copy)]
 pub struct Counts {
     // Of the ID table.
     pub table: usize,

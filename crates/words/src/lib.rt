@@ -1,4 +1,6 @@
 // Words: fields of a word, big-endian numbers in lent bytes, and the three channels of a colour.
+#![tactic(auto)]
+
 ghost use Rattle.std.specs.Prelude.{◌+◌, ◌-◌, ◌≤◌, ◌<◌, ◌^◌, ◌≡◌, length};
 ghost use Rattle.words.specs.Field.{bits, field};
 ghost use Rattle.words.specs.Bytes.{big_endian};
