@@ -58,21 +58,14 @@ pub struct DrawnNumbers {
 }
 
 // A fresh state: all zero, its queue empty.
-#[unsafe(no_mangle)]
-pub extern "C" fn bulitampaw_fresh() -> State
+pub fn bulitampaw_fresh() -> State
     ensures { result ≡ fresh }
 {
     State::new()
 }
 
 // One register write.
-#[unsafe(no_mangle)]
-pub extern "C" fn bulitampaw_write(
-    state: State,
-    store: &mut [u32],
-    address: u32,
-    value: u32,
-) -> WrittenNumbers
+pub fn bulitampaw_write(state: State, store: &mut [u32], address: u32, value: u32) -> WrittenNumbers
     ensures { (result, store.new) ≡ written_in_numbers (state, store.old) address value }
 {
     let wrote = state.write_change(store, address, value);
@@ -94,8 +87,7 @@ pub extern "C" fn bulitampaw_write(
 }
 
 // One register read. It changes nothing, so the state that came goes back.
-#[unsafe(no_mangle)]
-pub extern "C" fn bulitampaw_read(state: State, store: &[u32], address: u32) -> ReadBackNumbers
+pub fn bulitampaw_read(state: State, store: &[u32], address: u32) -> ReadBackNumbers
     ensures { result ≡ read_in_numbers (state, store.now) address }
 {
     let read = state.read(store, address);
@@ -108,8 +100,7 @@ pub extern "C" fn bulitampaw_read(state: State, store: &[u32], address: u32) -> 
 }
 
 // One dot.
-#[unsafe(no_mangle)]
-pub extern "C" fn bulitampaw_dot(state: State, store: &mut [u32]) -> DottedNumbers
+pub fn bulitampaw_dot(state: State, store: &mut [u32]) -> DottedNumbers
     ensures { (result, store.new) ≡ dotted_in_numbers (state, store.old) }
 {
     let dotted = state.dot_change(store);
@@ -134,8 +125,7 @@ pub extern "C" fn bulitampaw_dot(state: State, store: &mut [u32]) -> DottedNumbe
 }
 
 // So many dots.
-#[unsafe(no_mangle)]
-pub extern "C" fn bulitampaw_dots(state: State, store: &mut [u32], count: u32) -> DottedNumbers
+pub fn bulitampaw_dots(state: State, store: &mut [u32], count: u32) -> DottedNumbers
     ensures { (result, store.new) ≡ ran_in_numbers (state, store.old) count }
 {
     let ran = state.dots_change(store, count);
@@ -160,8 +150,7 @@ pub extern "C" fn bulitampaw_dots(state: State, store: &mut [u32], count: u32) -
 }
 
 // One drawn line. It changes no state, so the one that came goes back.
-#[unsafe(no_mangle)]
-pub extern "C" fn bulitampaw_line(
+pub fn bulitampaw_line(
     state: State,
     y: u32,
     store: &[u32],

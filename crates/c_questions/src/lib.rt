@@ -1,4 +1,6 @@
 // The two questions that C asks, and the version of what it calls: plain numbers in, a plain number out.
+#![tactic(auto)]
+
 ghost use Rattle.std.specs.Prelude.{◌≡◌};
 ghost use Rattle.c_questions.specs.Questions.{entry_defined, signal_holds, interface_version};
 
@@ -6,8 +8,7 @@ use c_numbers::yes_no;
 use line_colour::entry::Decoded;
 
 // Whether a window entry is defined at a depth: 1 or 0.
-#[unsafe(no_mangle)]
-pub extern "C" fn bulitampaw_entry_defined(entry: u32, depth: u32) -> u32
+pub fn bulitampaw_entry_defined(entry: u32, depth: u32) -> u32
     ensures { result ≡ entry_defined entry depth }
 {
     let decoded = line_colour::entry::decode(entry, depth);
@@ -18,16 +19,14 @@ pub extern "C" fn bulitampaw_entry_defined(entry: u32, depth: u32) -> u32
 }
 
 // Whether a signal holds at p, by its window from on to off: 1 or 0.
-#[unsafe(no_mangle)]
-pub extern "C" fn bulitampaw_signal_holds(on: u32, off: u32, p: u32) -> u32
+pub fn bulitampaw_signal_holds(on: u32, off: u32, p: u32) -> u32
     ensures { result ≡ signal_holds on off p }
 {
     yes_no(chip_timing::in_window(on, off, p))
 }
 
 // The version of the header that this library goes with. The name has the number too, so that another version's header and this library don't link.
-#[unsafe(no_mangle)]
-pub extern "C" fn bulitampaw_version_1() -> u32
+pub fn bulitampaw_version_1() -> u32
     ensures { result ≡ interface_version }
 {
     1

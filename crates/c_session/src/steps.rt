@@ -63,8 +63,7 @@ pub struct StatusNumbers {
 }
 
 // A session before its first record.
-#[unsafe(no_mangle)]
-pub extern "C" fn bulitampaw_fresh_session() -> Session
+pub fn bulitampaw_fresh_session() -> Session
     ensures { result ≡ session_of nothing_held }
 {
     Session::new()
@@ -155,8 +154,7 @@ fn short_of_text(
 }
 
 // The record at a place of some bytes, on the lent store, table, rows and output, and its text. A last other than 0 says that the file ends with these bytes.
-#[unsafe(no_mangle)]
-pub extern "C" fn bulitampaw_step(
+pub fn bulitampaw_step(
     session: Session,
     bytes: &[u8],
     place: usize,
