@@ -3,7 +3,7 @@ ghost use Rattle.std.specs.Prelude.{◌≡◌};
 ghost use Rattle.replay.specs.Run.{begun, going_so, goes_on_turning, written_out};
 
 // How a run goes on.
-#[derive(Drop)]
+#[derive(Clone, Copy)]
 pub enum Going {
     // With the next turn.
     On,
@@ -20,7 +20,7 @@ pub enum Going {
 }
 
 // How far a run is. What is smaller than a word stands last, so that there is no gap between the fields.
-#[derive(Drop)]
+#[derive(Clone, Copy)]
 pub struct Course {
     // Where the bytes of the input that wait start.
     pub from: usize,

@@ -12,13 +12,17 @@ ghost use Rattle.replay.specs.declared.course.Going.TheVariants.{Read};
 
 use crate::course::{Course, Going};
 use crate::input::read_on;
+use crate::messages::tell;
 use crate::rooms;
+use crate::streams::{Source, Streams};
 use crate::text::{write_out, written};
 use crate::turn::turn;
 use chip::change::QueueChange;
 use chip::state::State;
 use session::session::Session;
 use session_rooms::Counts;
+use std::io;
+use std::io::ErrorKind;
 
 // What the turns of a run leave.
 #[derive(Drop)]
@@ -30,27 +34,27 @@ struct Ended {
 }
 
 // Writes out the text that waits, and then reads on.
-fn read_after(file: i32, input: &mut [u8], lines: &[u8], course: Course) -> Course
+fn read_after(streams: &mut Streams, input: &mut [u8], lines: &[u8], course: Course) -> Course
     requires { (course.to ≤ length input.old) × (length (unread_in course input.old) < length input.old) }
     ensures { AfterBoth course input.old result input.new }
 {
-    if write_out(lines, course.put) {
-        return read_on(file, input, course.written_out(Going::Read));
+    if write_out(streams, lines, course.put) {
+        return read_on(streams, input, course.written_out(Going::Read));
     }
     course.going_so(Going::Unwritten)
 }
 
 // Does what a turn asks for: the text is written out where it leaves no room, before a read, which may wait, and at the end.
-fn served(file: i32, input: &mut [u8], lines: &[u8], course: Course) -> Course
+fn served(streams: &mut Streams, input: &mut [u8], lines: &[u8], course: Course) -> Course
     requires { (course.to ≤ length input.old) × (course.going ≡ Read → length (unread_in course input.old) < length input.old) }
     ensures { AfterServing course.going course input.old result input.new }
 {
     let going = course.going;
     match going {
         Going::On => course,
-        Going::Full => written(lines, course, Going::On),
-        Going::Read => read_after(file, input, lines, course),
-        Going::Over => written(lines, course, Going::Over),
+        Going::Full => written(streams, lines, course, Going::On),
+        Going::Read => read_after(streams, input, lines, course),
+        Going::Over => written(streams, lines, course, Going::Over),
         Going::Unread => course,
         Going::Unwritten => course,
     }
@@ -58,7 +62,7 @@ fn served(file: i32, input: &mut [u8], lines: &[u8], course: Course) -> Course
 
 // Makes turns, and does after each what it asks for. A proved loop has to end, and nothing says that a file does, so the turns are counted down.
 fn run_turns(
-    file: i32,
+    streams: &mut Streams,
     input: &mut [u8],
     lines: &mut [u8],
     store: &mut [u32],
@@ -84,7 +88,7 @@ fn run_turns(
             state, counts, records, course, input, lines, store, table, normal, overlay, output,
         );
         let asks = turned.course;
-        course = served(file, input, lines, asks);
+        course = served(streams, input, lines, asks);
         turns -= 1;
         counts = turned.counts;
         records = turned.records;
@@ -110,20 +114,24 @@ fn run_turns(
     }
 }
 
-// Says why a run broke off. Answers whether more can be written.
-fn finish(name: &[u8], going: Going) -> bool {
+// Says why a file could not be read. Answers with the error by which no more can be written, where there is one.
+fn finish(rt: &HostRuntime, name: &[u8], going: Going, fault: io::Error) -> io::Result<()> {
     if let Going::Unwritten = going {
-        os::fail(b"standard output");
-        return false;
+        return Err(fault);
     }
     if let Going::Unread = going {
-        os::fail(name);
+        tell(rt, name, fault);
     }
-    true
+    Ok(())
 }
 
-// Lists an open file, which messages call by this name. Answers whether more can be written.
-pub(crate) fn run_file(file: i32, name: &[u8]) -> bool {
+// Lists what comes from a source, which messages call by this name. Answers with the error by which no more can be written, where there is one.
+pub(crate) fn run_file(rt: &HostRuntime, source: Source, name: &[u8]) -> io::Result<()> {
+    let mut streams = Streams {
+        source,
+        listing: rt.stdout(),
+        fault: io::Error::from(ErrorKind::Other),
+    };
     let mut input = rooms::input();
     let mut lines = rooms::text();
     let mut store = rooms::store();
@@ -132,7 +140,7 @@ pub(crate) fn run_file(file: i32, name: &[u8]) -> bool {
     let mut overlay = rooms::overlay();
     let mut output = rooms::output();
     let left = run_turns(
-        file,
+        &mut streams,
         &mut input,
         &mut lines,
         &mut store,
@@ -143,5 +151,5 @@ pub(crate) fn run_file(file: i32, name: &[u8]) -> bool {
     );
     let course = left.course;
     let going = course.going;
-    finish(name, going)
+    finish(rt, name, going, streams.fault)
 }
