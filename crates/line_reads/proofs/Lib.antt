@@ -21,6 +21,6 @@ pub mod PixelColour
 pub mod PaperList
 pub mod Active
 pub mod Unseen
-pub mod Hidden
+pub mod HiddenCases
 pub mod Below
 pub mod Off

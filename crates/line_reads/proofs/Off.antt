@@ -13,7 +13,7 @@ use Rattle.line_reads.specs.Calls.{controls_in}
 use Rattle.line_reads.specs.Hidden.{other_table, other_overlay}
 use Rattle.line_reads.proofs.ByList.{drawn_rests_on_list}
 use Rattle.line_reads.proofs.Unseen.{seen_agree}
-use Rattle.line_reads.proofs.Hidden.{store_same, rows_same, rows_off, fields_off}
+use Rattle.line_reads.proofs.HiddenCases.{store_same, rows_same, rows_off, fields_off}
 
 module _ (request : Request) (lent : Lent) (output : List ℕ) where
   -- what the line goes by

@@ -14,26 +14,26 @@ use Rattle.c_questions.proofs.bulitampaw_entry_defined.Tie as tie
 abbrev answer : Decoded → ℕ
 answer decoded = yes_no (is_defined decoded)
 
-decode_requires : tie.Need-decode-requires
+decode_requires : tie.Need-decode-decoded-requires
 decode_requires c κs = search rules
 
-enum_told : tie.Need-enum-told
+enum_told : tie.Need-enum_told-1
 enum_told c = search rules
 
-enum_told_2 : tie.Need-enum-told-2
+enum_told_2 : tie.Need-enum_told-in-Undefined
 enum_told_2 c = search rules
 
-returns : tie.Need-returns
+returns : tie.Need-returns-in-Defined
 unfolding entry_defined is_defined
 returns c =
-    let a = c.before.before.before.args in
-    ap answer (sym c.enum_told.given.1 ∙ (c.before.before.decode.ensures ∙ sym (decoded_kept a.entry a.depth)))
+    let a = c.args in
+    ap answer (sym c.in-Defined.is ∙ (c.decode-decoded.ensures ∙ sym (decoded_kept a.entry a.depth)))
 
-returns_2 : tie.Need-returns-2
+returns_2 : tie.Need-returns-in-Undefined
 unfolding entry_defined is_defined
 returns_2 c =
-    let a = c.before.before.before.args in
-    ap answer (sym c.enum-told2.given.1 ∙ (c.before.before.decode.ensures ∙ sym (decoded_kept a.entry a.depth)))
+    let a = c.args in
+    ap answer (sym c.in-Undefined.is ∙ (c.decode-decoded.ensures ∙ sym (decoded_kept a.entry a.depth)))
 
 pub bulitampaw_entry_defined_spec : {M : Type 1} → statement M
 bulitampaw_entry_defined_spec =

@@ -6,23 +6,23 @@ use Rattle.chip_timing.proofs.in_window.Tie as tie
 
 ruleset tests = (lt-ltb, le-ltb, le-leb, lt-leb)
 
-returns : tie.Need-returns
+returns : tie.Need-returns-then-on-p
 unfolding in_window
 returns c = search tests
 
-returns_2 : tie.Need-returns-2
+returns_2 : tie.Need-returns-else-on-p
 unfolding in_window
 returns_2 c = search tests
 
-returns_3 : tie.Need-returns-3
+returns_3 : tie.Need-returns-then-on-p-2
 unfolding in_window
 returns_3 c = search tests
 
-returns_4 : tie.Need-returns-4
+returns_4 : tie.Need-returns-else-on-p-2
 unfolding in_window
 returns_4 c = search tests
 
-returns_5 : tie.Need-returns-5
+returns_5 : tie.Need-returns-else-off-on
 unfolding in_window
 returns_5 c = search tests
 

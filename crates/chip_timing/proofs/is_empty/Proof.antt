@@ -12,7 +12,7 @@ field_requires_2 c κs = search rules
 
 returns : tie.Need-returns
 unfolding is_empty
-returns c = simp (c.before.field.ensures.0, c.field2.ensures.0)
+returns c = simp (c.field.ensures.0, c.field-2.ensures.0)
 
 pub is_empty_spec : {M : Type 1} → statement M
 is_empty_spec = tie.close (tie.spec field_requires field_requires_2 returns)

@@ -10,7 +10,7 @@ field_requires c κs = search rules
 field_requires_2 : tie.Need-field-requires-2
 field_requires_2 c κs = search rules
 
-in_window_requires : tie.Need-in-window-requires
+in_window_requires : tie.Need-in_window-requires
 in_window_requires c κs = search rules
 
 returns : tie.Need-returns

@@ -11,22 +11,21 @@ use Rattle.c_chip.specs.Calls.{line_answer, drawn_in_numbers}
 use Rattle.c_chip.proofs.calls.bulitampaw_line.Statement.{statement}
 use Rattle.c_chip.proofs.calls.bulitampaw_line.Tie as tie
 
-draw_requires : tie.Need-draw-requires
+draw_requires : tie.Need-draw-drawn-requires
 draw_requires c κs = search rules
 
-of_answer_requires : tie.Need-of-answer-requires
+of_answer_requires : tie.Need-of_answer-requires
 of_answer_requires c κs = search rules
 
-same_length : tie.Need-same-length
+same_length : tie.Need-shape_of-output
 same_length c = search rules
 
 returns : tie.Need-returns
 unfolding drawn_in_numbers drawn
 returns c =
-    let draw_at = c.before.before.before in
-    let given = draw_at.before.before.before.before.before.before.before.args in
-    rw c.of-answer.ensures
-    (ap (λ (all : (State × List ℕ) × Outcome Numbered (Unit {0})). (line_answer given.state all.1, all.0.1)) draw_at.draw.ensures)
+    let given = c.args in
+    rw c.of_answer.ensures
+    (ap (λ (all : (State × List ℕ) × Outcome Numbered (Unit {0})). (line_answer given.state all.1, all.0.1)) c.draw-drawn.ensures)
 
 pub bulitampaw_line_spec : {M : Type 1} → statement M
 bulitampaw_line_spec = tie.close (tie.spec draw_requires of_answer_requires same_length returns)

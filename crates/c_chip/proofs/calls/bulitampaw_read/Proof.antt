@@ -11,23 +11,22 @@ use Rattle.c_chip.specs.Calls.{read_answer, read_in_numbers}
 use Rattle.c_chip.proofs.calls.bulitampaw_read.Statement.{statement}
 use Rattle.c_chip.proofs.calls.bulitampaw_read.Tie as tie
 
-read_requires : tie.Need-read-requires
+read_requires : tie.Need-read-read-requires
 read_requires c κs = search rules
 
-of_read_requires : tie.Need-of-read-requires
+of_read_requires : tie.Need-of_read-requires
 of_read_requires c κs = search rules
 
-word_read_requires : tie.Need-word-read-requires
+word_read_requires : tie.Need-word_read-requires
 word_read_requires c κs = search rules
 
 returns : tie.Need-returns
 unfolding read_in_numbers
 returns c =
-    let read_at = c.before.before in
-    let given = read_at.before.before.args in
+    let given = c.args in
     let answer = (read_back (given.state, given.store.now) given.address).1 in
-    rw (c.before.of-read.ensures, c.word_read.ensures)
-    (ap (λ (all : Chip × Outcome Numbered ℕ). read_answer given.state all.1) read_at.read.ensures
+    rw (c.of_read.ensures, c.word_read.ensures)
+    (ap (λ (all : Chip × Outcome Numbered ℕ). read_answer given.state all.1) c.read-read.ensures
     ∙ ap (λ (chip : Chip). read_answer chip.0 answer) (sym (read_same (given.state, given.store.now) given.address)))
 
 pub bulitampaw_read_spec : {M : Type 1} → statement M

@@ -24,11 +24,11 @@ use Rattle.chip.proofs.pass.apply.Statement.{statement}
 use Rattle.chip.proofs.pass.apply.Tie as tie
 
 -- before each turn so many writes are in the store
-abbrev invariant_loop : tie.invariant-loop
+abbrev invariant_loop : tie.invariant-loop-i
 invariant_loop store₀ taken queue count i₀ store i = (i ≤ count) × ((length store ≡ length store₀) × (store ≡ stored_by i queue store₀))
 
 -- each turn leaves one write less
-abbrev decreases_loop : tie.decreases-loop
+abbrev decreases_loop : tie.decreases-loop-i
 decreases_loop store₀ taken queue count i₀ store i = count - i
 
 -- a write that waits in a good queue goes to a colour entry
@@ -57,64 +57,59 @@ stored_length queue store zero = refl
 stored_length queue store (suc count) = simp length-set (stored_length queue store count)
 
 -- a turn is made for one of the 64 slots
-few : (c : tie.In-loop invariant_loop decreases_loop) → c.before.loop.i < 64
+few : (c : tie.In-loop-i invariant_loop decreases_loop) → c.loop-i.i < 64
 few c =
-    let start = c.before.before.before in
-    omega (arith, (good_says start.args.t1 start.requires.0).0, start.requires.1)
+    omega (arith, (good_says c.args.queue c.requires.0).0, c.requires.1)
 
 -- the write of a turn goes to a word of the store
-inside : (c : tie.After-target invariant_loop decreases_loop) → c.target.result < store_length
+inside : (c : tie.After-target-index invariant_loop decreases_loop) → c.target-index.result < store_length
 inside c =
-    let turn = c.before.before.before in
-    let start = turn.before.before in
-    let sized : length start.args.t1.slots ≡ 64 = simp length-map at start.well-formed.0.1.1.1.0.1.0.1 in
-    let fine = goes start.args.t1 turn.loop.i sized start.requires.0 (omega (arith, start.requires.1)) in
-    rw c.target.ensures (omega (arith, fine))
+    let sized : length c.args.queue.slots ≡ 64 = c.well_formed.0.1.1.1.0.1.0.1 in
+    let fine = goes c.args.queue c.loop-i.i sized c.requires.0 (omega (arith, c.requires.1)) in
+    rw c.target-index.ensures (omega (arith, fine))
 
-loop_holds : tie.Need-loop-init invariant_loop decreases_loop
+loop_holds : tie.Need-loop-i-init invariant_loop decreases_loop
 unfolding stored_by
 loop_holds c = (omega arith, (refl, refl))
 
-mul_write : tie.Need-overflow-mul-write invariant_loop decreases_loop
+mul_write : tie.Need-offset_bounds-queue-i invariant_loop decreases_loop
 mul_write c = omega (arith, few c)
 
-element_copy_out_write : tie.Need-element-copy-out-write invariant_loop decreases_loop
+element_copy_out_write : tie.Need-bounds-queue-i invariant_loop decreases_loop
 element_copy_out_write c = few c
 
-target_requires : tie.Need-target-requires invariant_loop decreases_loop
+target_requires : tie.Need-target-index-requires invariant_loop decreases_loop
 target_requires c κs = search rules
 
-mul_store : tie.Need-overflow-mul-store invariant_loop decreases_loop
+mul_store : tie.Need-offset_bounds-store-index invariant_loop decreases_loop
 mul_store c = omega (arith, inside c)
 
-slice_write_store : tie.Need-slice-write-store invariant_loop decreases_loop
+slice_write_store : tie.Need-bounds-store-index invariant_loop decreases_loop
 slice_write_store c =
-    let turn = c.before.before.before in
-    omega (arith, inside c, turn.loop.invariant.1.0, turn.before.before.requires.2)
+    omega (arith, inside c, c.loop-i.invariant.1.0, c.requires.2)
 
-add_i : tie.Need-overflow-add-i invariant_loop decreases_loop
+add_i : tie.Need-overflow_add-i invariant_loop decreases_loop
 add_i c = search rules
 
-loop_less : tie.Need-loop-smaller invariant_loop decreases_loop
+loop_less : tie.Need-loop-i-smaller invariant_loop decreases_loop
 loop_less c = search rules
 
-loop_again : tie.Need-loop-preserved invariant_loop decreases_loop
+loop_again : tie.Need-loop-i-preserved invariant_loop decreases_loop
 loop_again c =
-    let turn = c.before.before.before in
-    let given = turn.before.before.args in
+    let given = c.args in
     let stored =
-    ap (λ (index : ℕ). set turn.loop.store index (get_or given.t1.slots turn.loop.i zero_slot).value) c.target.ensures
-    ∙ stored_more given.t1 turn.loop.i given.store.now turn.loop.store turn.loop.invariant.1.1 in
-    (omega arith, (ap length stored ∙ stored_length given.t1 given.store.now (turn.loop.i + 1), stored))
+    ap (λ (index : ℕ). set c.loop-i.store index (get_or given.queue.slots c.loop-i.i zero_slot).value) c.target-index.ensures
+    ∙ stored_more given.queue c.loop-i.i given.store.now c.loop-i.store c.loop-i.invariant.1.1 in
+    (omega arith, (ap length stored ∙ stored_length given.queue given.store.now (c.loop-i.i + 1), stored))
 
-same_length : tie.Need-same-length invariant_loop decreases_loop
+same_length : tie.Need-shape_of-store invariant_loop decreases_loop
 same_length c = search rules
 
 returns : tie.Need-returns invariant_loop decreases_loop
 returns c =
-    let given = c.before.before.before.args in
-    let all : c.before.loop.i ≡ given.taken = omega arith in
-    c.before.loop.invariant.1.1 ∙ ap (λ (count : ℕ). stored_by count given.t1 given.store.now) all
+    let given = c.args in
+    let all : c.loop-i.i ≡ given.taken = omega arith in
+    c.loop-i.invariant.1.1 ∙ ap (λ (count : ℕ). stored_by count given.queue given.store.now) all
 
 pub apply_spec : {M : Type 1} → statement M
 apply_spec =

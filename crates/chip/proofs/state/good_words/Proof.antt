@@ -10,54 +10,51 @@ use Rattle.chip.proofs.state.good_words.Statement.{statement}
 use Rattle.chip.proofs.state.good_words.Tie as tie
 
 -- the words before this one are good, so the test from it on is the whole test
-abbrev invariant_loop : tie.invariant-loop
+abbrev invariant_loop : tie.invariant-loop-word
 invariant_loop control word₀ word = (word ≤ 9) × (good_words word (drop word control) ≡ good_words 0 control)
 
 -- each turn leaves one word less to test
-abbrev decreases_loop : tie.decreases-loop
+abbrev decreases_loop : tie.decreases-loop-word
 decreases_loop control word₀ word = 9 - word
 
-loop_holds : tie.Need-loop-init invariant_loop decreases_loop
+loop_holds : tie.Need-loop-word-init invariant_loop decreases_loop
 loop_holds c = (omega arith, refl)
 
-mul_value : tie.Need-overflow-mul-value invariant_loop decreases_loop
+mul_value : tie.Need-offset_bounds-control-word invariant_loop decreases_loop
 mul_value c = search rules
 
-array_read_value : tie.Need-array-read-value invariant_loop decreases_loop
+array_read_value : tie.Need-bounds-control-word invariant_loop decreases_loop
 array_read_value c = omega arith
 
-cast_t10 : tie.Need-overflow-cast-t10 invariant_loop decreases_loop
+cast_t10 : tie.Need-overflow_cast-register invariant_loop decreases_loop
 cast_t10 c = search rules
 
 fits_requires : tie.Need-fits-requires invariant_loop decreases_loop
 fits_requires c κs = search rules
 
-add_word : tie.Need-overflow-add-word invariant_loop decreases_loop
+add_word : tie.Need-overflow_add-word invariant_loop decreases_loop
 add_word c = search rules
 
-loop_less : tie.Need-loop-smaller invariant_loop decreases_loop
+loop_less : tie.Need-loop-word-smaller invariant_loop decreases_loop
 loop_less c = search rules
 
-loop_again : tie.Need-loop-preserved invariant_loop decreases_loop
+loop_again : tie.Need-loop-word-preserved invariant_loop decreases_loop
 loop_again c =
-    let l = c.before.before.before in
-    let control = l.before.args.t1 in
-    let sized : length control ≡ 9 = l.before.well-formed.0.1.0.1 in
-    (omega arith, good_on control l.loop.word (omega arith) (sym c.before.fits2.ensures ∙ c.if1.true) ∙ l.loop.invariant.1)
+    let control = c.args.control in
+    let sized : length control ≡ 9 = c.well_formed.0.1.0.1 in
+    (omega arith, good_on control c.loop-word.word (omega arith) (sym c.fits.ensures ∙ c.if-fits.true) ∙ c.loop-word.invariant.1)
 
-returns : tie.Need-returns invariant_loop decreases_loop
+returns : tie.Need-returns-else-fits invariant_loop decreases_loop
 returns c =
-    let l = c.before.before.before in
-    let control = l.before.args.t1 in
-    let sized : length control ≡ 9 = l.before.well-formed.0.1.0.1 in
-    good_off control l.loop.word (omega arith) (sym c.before.fits2.ensures ∙ c.if1.false) ∙ l.loop.invariant.1
+    let control = c.args.control in
+    let sized : length control ≡ 9 = c.well_formed.0.1.0.1 in
+    good_off control c.loop-word.word (omega arith) (sym c.fits.ensures ∙ c.if-fits.false) ∙ c.loop-word.invariant.1
 
-returns_2 : tie.Need-returns-2 invariant_loop decreases_loop
+returns_2 : tie.Need-returns invariant_loop decreases_loop
 returns_2 c =
-    let l = c.before in
-    let control = l.before.args.t1 in
-    let sized : length control ≡ 9 = l.before.well-formed.0.1.0.1 in
-    good_over control l.loop.word (omega arith) ∙ l.loop.invariant.1
+    let control = c.args.control in
+    let sized : length control ≡ 9 = c.well_formed.0.1.0.1 in
+    good_over control c.loop-word.word (omega arith) ∙ c.loop-word.invariant.1
 
 pub good_words_spec : {M : Type 1} → statement M
 good_words_spec =

@@ -12,57 +12,54 @@ use Rattle.chip_queue.proofs.Queue.good.Statement.{statement}
 use Rattle.chip_queue.proofs.Queue.good.Tie as tie
 
 -- the slots before i are good, so the test from slot i on is the whole test
-abbrev invariant_loop : tie.invariant-loop
+abbrev invariant_loop : tie.invariant-loop-i
 invariant_loop self waiting i₀ i = (i ≤ waiting) × (waiting ≡ self.waiting) × (waiting ≤ 64) × (all_good (drop i (waiting_in self)) ≡ good_queue self)
 
 -- each turn leaves one slot less to test
-abbrev decreases_loop : tie.decreases-loop
+abbrev decreases_loop : tie.decreases-loop-i
 decreases_loop self waiting i₀ i = waiting - i
 
-returns : tie.Need-returns invariant_loop decreases_loop
+returns : tie.Need-returns-then-self-gt-MOST_WAITING invariant_loop decreases_loop
 unfolding good_queue
-returns c = simp (lt-leb c.before.args.t1.waiting 64 (omega arith))
+returns c = simp (lt-leb c.args.self.waiting 64 (omega arith))
 
-cast_waiting : tie.Need-overflow-cast-waiting invariant_loop decreases_loop
+cast_waiting : tie.Need-overflow_cast-waiting invariant_loop decreases_loop
 cast_waiting c = search rules
 
-loop_holds : tie.Need-loop-init invariant_loop decreases_loop
+loop_holds : tie.Need-loop-i-init invariant_loop decreases_loop
 unfolding good_queue
-loop_holds c = (omega arith, refl, omega arith, simp (le-leb c.before.args.t1.waiting 64 (omega arith)))
+loop_holds c = (omega arith, refl, omega arith, simp (le-leb c.args.self.waiting 64 (omega arith)))
 
-mul_write : tie.Need-overflow-mul-write invariant_loop decreases_loop
+mul_write : tie.Need-offset_bounds-self-i invariant_loop decreases_loop
 mul_write c = search rules
 
-element_copy_out_write : tie.Need-element-copy-out-write invariant_loop decreases_loop
+element_copy_out_write : tie.Need-bounds-self-i invariant_loop decreases_loop
 element_copy_out_write c = omega arith
 
 good_requires : tie.Need-good-requires invariant_loop decreases_loop
 good_requires c κs = search rules
 
-add_i : tie.Need-overflow-add-i invariant_loop decreases_loop
+add_i : tie.Need-overflow_add-i invariant_loop decreases_loop
 add_i c = search rules
 
-loop_less : tie.Need-loop-smaller invariant_loop decreases_loop
+loop_less : tie.Need-loop-i-smaller invariant_loop decreases_loop
 loop_less c = search rules
 
-loop_again : tie.Need-loop-preserved invariant_loop decreases_loop
+loop_again : tie.Need-loop-i-preserved invariant_loop decreases_loop
 loop_again c =
-    let l = c.before.before.before.before in
-    let q = l.before.before.args.t1 in
-    let sized : length q.slots ≡ 64 = simp length-map at l.before.before.well-formed.0.1.1.1.0.1.0.1 in
-    (omega arith, refl, l.loop.invariant.2, good_on q l.loop.i zero_slot (omega arith) (omega arith) (sym c.before.good2.ensures ∙ c.if2.true) ∙ l.loop.invariant.3)
+    let q = c.args.self in
+    let sized : length q.slots ≡ 64 = c.well_formed.0.1.1.1.0.1.0.1 in
+    (omega arith, refl, c.loop-i.invariant.2, good_on q c.loop-i.i zero_slot (omega arith) (omega arith) (sym c.good.ensures ∙ c.if-good.true) ∙ c.loop-i.invariant.3)
 
-returns_2 : tie.Need-returns-2 invariant_loop decreases_loop
+returns_2 : tie.Need-returns-else-good invariant_loop decreases_loop
 returns_2 c =
-    let l = c.before.before.before.before in
-    let q = l.before.before.args.t1 in
-    let sized : length q.slots ≡ 64 = simp length-map at l.before.before.well-formed.0.1.1.1.0.1.0.1 in
-    good_off q l.loop.i zero_slot (omega arith) (omega arith) (sym c.before.good2.ensures ∙ c.if2.false) ∙ l.loop.invariant.3
+    let q = c.args.self in
+    let sized : length q.slots ≡ 64 = c.well_formed.0.1.1.1.0.1.0.1 in
+    good_off q c.loop-i.i zero_slot (omega arith) (omega arith) (sym c.good.ensures ∙ c.if-good.false) ∙ c.loop-i.invariant.3
 
-returns_3 : tie.Need-returns-3 invariant_loop decreases_loop
+returns_3 : tie.Need-returns invariant_loop decreases_loop
 returns_3 c =
-    let l = c.before in
-    good_over l.before.before.args.t1 l.loop.i (omega arith) ∙ l.loop.invariant.3
+    good_over c.args.self c.loop-i.i (omega arith) ∙ c.loop-i.invariant.3
 
 pub good_spec : {M : Type 1} → statement M
 good_spec =

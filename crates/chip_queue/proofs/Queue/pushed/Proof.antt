@@ -13,31 +13,31 @@ use Rattle.chip_queue.proofs.Queue.pushed.Lts as lts
 use Rattle.chip_queue.proofs.Queue.full.Reads as full_reads
 
 -- past the test there is room
-more : (c : lts.Then1 (full_reads.Asked, full_reads.Learnt) reads.Pre reads.Post) → c.before.before.args.t1.waiting < 64
+more : (c : lts.Then-not-full (full_reads.Asked, full_reads.Learnt) reads.Pre reads.Post) → c.args.self.waiting < 64
 unfolding full
-more c = leb-false _ _ (sym c.before.full.ensures ∙ not-true c.before.full.result c.if1.true)
+more c = leb-false _ _ (sym c.full.ensures ∙ c.if-not-full.true)
 
 full_requires : tie.Need-full-requires
 full_requires c κs = search rules
 
-cast_end : tie.Need-overflow-cast-end
+cast_end : tie.Need-overflow_cast-end
 cast_end c = search rules
 
-mul_write : tie.Need-overflow-mul-write
+mul_write : tie.Need-offset_bounds-self-end
 mul_write c = search rules
 
-element_set_from_write : tie.Need-element-set-from-write
+element_set_from_write : tie.Need-bounds-self-end
 element_set_from_write c = omega (arith, more c)
 
-add_self : tie.Need-overflow-add-self
+add_self : tie.Need-overflow_add-self
 add_self c = omega (arith, more c)
 
-returns : tie.Need-returns
-returns c = sym (pushed_is _ c.before.before.args.write (more c))
+returns : tie.Need-returns-then-not-full
+returns c = sym (pushed_is _ c.args.write (more c))
 
-returns_2 : tie.Need-returns-2
+returns_2 : tie.Need-returns-else-not-full
 unfolding pushed
-returns_2 c = simp (← c.before.full.ensures, not-false c.before.full.result c.if1.false) refl
+returns_2 c = simp (← c.full.ensures, c.if-not-full.false) refl
 
 pub pushed_spec : {M : Type 1} → statement M
 pushed_spec =

@@ -8,13 +8,13 @@ use Rattle.chip_queue.proofs.Waiting.good.Tie as tie
 
 ruleset tests = (lt-ltb, le-ltb)
 
-returns : tie.Need-returns
+returns : tie.Need-returns-then-self-lt-COLOUR_MAP_WORDS
 unfolding good_write
 returns c =
-    let a = c.before.before.before.args in
-    simp (lt-ltb _ _ c.before.if1.true) (sym (colour_fits a.self.word a.self.value))
+    let a = c.args in
+    simp (lt-ltb _ _ c.if-self-lt-COLOUR_MAP_WORDS.true) (sym (colour_fits a.self.word a.self.value))
 
-returns_2 : tie.Need-returns-2
+returns_2 : tie.Need-returns-else-self-lt-COLOUR_MAP_WORDS
 unfolding good_write
 returns_2 c = search tests
 

@@ -6,35 +6,33 @@ use Rattle.chip_registers.proofs.Naming.{named_unaligned, named_within, named_pa
 use Rattle.chip_registers.proofs.Register.at.Statement.{statement}
 use Rattle.chip_registers.proofs.Register.at.Tie as tie
 
-place_requires : tie.Need-place-requires
+place_requires : tie.Need-place-place-requires
 place_requires c κs = search rules
 
-returns : tie.Need-returns
-returns c = sym (named_unaligned c.before.before.args.address c.before.place.result c.before.place.ensures c.if1.true)
+returns : tie.Need-returns-then-place-ne0
+returns c = sym (named_unaligned c.args.address c.place-place.result c.place-place.ensures c.if-place-ne0.true)
 
-block_before_requires : tie.Need-block-before-requires
+block_before_requires : tie.Need-block_before-block-requires
 block_before_requires c κs = search rules
 
 start_requires : tie.Need-start-requires
 start_requires c κs = search rules
 
-sub_word : tie.Need-overflow-sub-word
+sub_word : tie.Need-overflow_sub-word
 sub_word c = search rules
 
 count_requires : tie.Need-count-requires
 count_requires c κs = search rules
 
-returns_2 : tie.Need-returns-2
+returns_2 : tie.Need-returns-then-word-count
 returns_2 c =
-    let at = c.before.before.before.before.before in
-    let inside = c.before.before.before.block-before in
-    cc (named_within at.before.args.address at.place.result at.place.ensures inside.result (omega arith) inside.ensures.1 (omega arith) (omega arith))
+    let inside = c.block_before-block in
+    cc (named_within c.args.address c.place-place.result c.place-place.ensures inside.result (omega arith) inside.ensures.1 (omega arith) (omega arith))
 
-returns_3 : tie.Need-returns-3
+returns_3 : tie.Need-returns
 returns_3 c =
-    let at = c.before.before.before.before.before in
-    let inside = c.before.before.before.block-before in
-    sym (named_past at.before.args.address at.place.result at.place.ensures inside.result (omega arith) inside.ensures.1 (omega arith))
+    let inside = c.block_before-block in
+    sym (named_past c.args.address c.place-place.result c.place-place.ensures inside.result (omega arith) inside.ensures.1 (omega arith))
 
 pub at_spec : {M : Type 1} → statement M
 at_spec =

@@ -12,7 +12,7 @@ kept_requires c κs = search rules
 
 returns : tie.Need-returns
 unfolding fits
-returns c = ap (λ (kept : ℕ). eqb kept c.before.args.value) c.kept.ensures
+returns c = ap (λ (kept : ℕ). eqb kept c.args.value) c.kept.ensures
 
 pub fits_spec : {M : Type 1} → statement M
 fits_spec = tie.close (tie.spec kept_requires returns)

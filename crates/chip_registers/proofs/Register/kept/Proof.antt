@@ -11,37 +11,34 @@ use Rattle.chip_registers.proofs.Register.kept.Statement.{statement}
 use Rattle.chip_registers.proofs.Register.kept.Tie as tie
 
 -- the column of the row that the code read
-column : (c : tie.After-row) {kept : KeptBits} → c.row.result.kept ≡ kept → (row_of c.before.args.self.block).kept ≡ kept
-column c is = sym (ap (λ (row : BlockRow). row.kept) c.row.ensures) ∙ is
+column : (c : tie.After-row-kept) {kept : KeptBits} → c.row-kept.result.kept ≡ kept → (row_of c.args.self.block).kept ≡ kept
+column c is = sym (ap (λ (row : BlockRow). row.kept) c.row-kept.ensures) ∙ is
 
-row_requires : tie.Need-row-requires
+row_requires : tie.Need-row-kept-requires
 row_requires c κs = search rules
 
-enum_told : tie.Need-enum-told
+enum_told : tie.Need-enum_told-1
 enum_told c = search rules
 
-kept_of_control_requires : tie.Need-kept-of-control-requires
+kept_of_control_requires : tie.Need-kept_of_control-requires
 kept_of_control_requires c κs = search rules
 
-enum_known_kept : tie.Need-enum-known-kept
+enum_known_kept : tie.Need-enum_known-kept
 enum_known_kept c = search rules
 
 bits_requires : tie.Need-bits-requires
 bits_requires c κs =
-    let r = c.before.before.before in
-    (omega arith, kept_width r.before.args.self.block _ (column r c.before.kept.given.1))
+    (omega arith, kept_width c.args.self.block _ (column c.before c.in-Lowest.is))
 
-returns : tie.Need-returns
+returns : tie.Need-returns-in-ByField
 returns c =
-    let r = c.before.before.before in
-    let a = r.before.args in
-    c.kept-of-control.ensures ∙ sym (ap (λ (kept : KeptBits). kept_by kept a.self.word a.value) (column r c.before.enum_told.given.1))
+    let a = c.args in
+    c.kept_of_control.ensures ∙ sym (ap (λ (kept : KeptBits). kept_by kept a.self.word a.value) (column c.before.before c.in-ByField.is))
 
-returns_2 : tie.Need-returns-2
+returns_2 : tie.Need-returns-in-Lowest
 returns_2 c =
-    let r = c.before.before.before.before in
-    let a = r.before.args in
-    c.bits.ensures.0 ∙ sym (ap (λ (kept : KeptBits). kept_by kept a.self.word a.value) (column r c.before.before.kept.given.1))
+    let a = c.args in
+    c.bits.ensures.0 ∙ sym (ap (λ (kept : KeptBits). kept_by kept a.self.word a.value) (column c.before.before c.in-Lowest.is))
 
 pub kept_spec : {M : Type 1} → statement M
 kept_spec =

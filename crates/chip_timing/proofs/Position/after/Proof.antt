@@ -19,76 +19,76 @@ mod_fits n m some fits = omega (arith, mod-lt n some)
 div_fits : (k n m : ℕ) → k + n < 2 ^ 64 → Fits w64 (k + n / m)
 div_fits k n m fits = omega (arith, div-le_self n m)
 
-returns : tie.Need-returns
+returns : tie.Need-returns-then-count-eq0
 unfolding position_after
-returns c = rw c.if1.true
+returns c = rw c.if-count-eq0.true
 
-field_requires : tie.Need-field-requires
+field_requires : tie.Need-field-last_x-requires
 field_requires c κs = search rules
 
-field_requires_2 : tie.Need-field-requires-2
+field_requires_2 : tie.Need-field-last_y-requires
 field_requires_2 c κs = search rules
 
 lesser_requires : tie.Need-lesser-requires
 lesser_requires c κs = search rules
 
-cast_dots : tie.Need-overflow-cast-dots
+cast_dots : tie.Need-overflow_cast-dots
 cast_dots c = search rules
 
-add_dots : tie.Need-overflow-add-dots
+add_dots : tie.Need-overflow_add-dots
 add_dots c = search rules
 
-cast_width : tie.Need-overflow-cast-width
+cast_width : tie.Need-overflow_cast-width
 cast_width c = search rules
 
-add_width : tie.Need-overflow-add-width
+add_width : tie.Need-overflow_add-width
 add_width c = search rules
 
-div_ends : tie.Need-nonzero-div-ends
+div_ends : tie.Need-nonzero_div-ends
 div_ends c = search rules
 
-rem_x : tie.Need-nonzero-rem-x
+rem_x : tie.Need-nonzero_rem-x
 rem_x c = search rules
 
-cast_x : tie.Need-overflow-cast-x
+cast_x : tie.Need-overflow_cast-x
 cast_x c = mod_fits _ _ (omega arith) (omega arith)
 
-returns_2 : tie.Need-returns-2
+returns_2 : tie.Need-returns-then-ends-eq0
 returns_2 c =
-    let a = c.before.before.before.before.before.args in
-    let x_is = c.before.lesser.ensures in
-    let last_is = c.before.before.before.field.ensures.0 in
-    rw (x_is, last_is) (sym (after_along a.total a.self a.count (omega arith) (rw (x_is, last_is) at c.if2.true)))
+    let a = c.args in
+    let x_is = c.lesser.ensures in
+    let last_is = c.field-last_x.ensures.0 in
+    rw (x_is, last_is) (sym (after_along a.total a.self a.count (omega arith) (rw (x_is, last_is) at c.if-ends-eq0.true)))
 
 lesser_requires_2 : tie.Need-lesser-requires-2
 lesser_requires_2 c κs = search rules
 
-cast_lines : tie.Need-overflow-cast-lines
+cast_lines : tie.Need-overflow_cast-lines
 cast_lines c = search rules
 
-add_lines : tie.Need-overflow-add-lines
+add_lines : tie.Need-overflow_add-lines
 add_lines c = div_fits _ _ _ (omega arith)
 
-cast_height : tie.Need-overflow-cast-height
+cast_height : tie.Need-overflow_cast-height
 cast_height c = search rules
 
-add_height : tie.Need-overflow-add-height
+add_height : tie.Need-overflow_add-height
 add_height c = search rules
 
-rem_t15 : tie.Need-nonzero-rem-t15
+rem_t15 : tie.Need-nonzero_rem-result
 rem_t15 c = search rules
 
-cast_t13 : tie.Need-overflow-cast-t13
+cast_t13 : tie.Need-overflow_cast-result
 cast_t13 c = mod_fits _ _ (omega arith) (omega arith)
 
-returns_3 : tie.Need-returns-3
+returns_3 : tie.Need-returns
 returns_3 c =
-    let a = c.before.before.before.before.before.before.args in
-    let x_is = c.before.before.lesser.ensures in
-    let y_is = c.lesser2.ensures in
-    let last_x_is = c.before.before.before.before.field.ensures.0 in
-    let last_y_is = c.before.before.before.field2.ensures.0 in
-    rw (x_is, y_is, last_x_is, last_y_is) (sym (after_ends a.total a.self a.count (omega arith) (rw (x_is, last_x_is) at c.before.if2.false)))
+    let a = c.args in
+    let x_is = c.lesser.ensures in
+    let y_is = c.lesser-2.ensures in
+    let last_x_is = c.field-last_x.ensures.0 in
+    let last_y_is = c.field-last_y.ensures.0 in
+    rw (x_is, y_is, last_x_is, last_y_is) (sym (after_ends a.total a.self a.count (omega arith) (rw (x_is, last_x_is) at c.if-ends-eq0.false)))
 
 pub after_spec : {M : Type 1} → statement M
 after_spec =

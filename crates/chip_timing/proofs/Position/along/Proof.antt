@@ -5,10 +5,10 @@ use Rattle.chip_timing.proofs.After.{after_run}
 use Rattle.chip_timing.proofs.Position.along.Statement.{statement}
 use Rattle.chip_timing.proofs.Position.along.Tie as tie
 
-sub_t5 : tie.Need-overflow-sub-t5
+sub_t5 : tie.Need-overflow_sub-last
 sub_t5 c = search rules
 
-add_t6 : tie.Need-overflow-add-t6
+add_t6 : tie.Need-overflow_add-last
 add_t6 c = search rules
 
 next_requires : tie.Need-next-requires
@@ -16,8 +16,7 @@ next_requires c κs = search rules
 
 returns : tie.Need-returns
 returns c =
-    let s = c.before.before in
-    c.next.ensures ∙ sym (after_run s.args.self s.args.run s.args.total s.requires.0 s.requires.1)
+    c.next.ensures ∙ sym (after_run c.args.self c.args.run c.args.total c.requires.0 c.requires.1)
 
 pub along_spec : {M : Type 1} → statement M
 along_spec = tie.close (tie.spec sub_t5 add_t6 next_requires returns)

@@ -7,39 +7,39 @@ use Rattle.chip_timing.proofs.Run.{run_one, run_along}
 use Rattle.chip_timing.proofs.Windows.clear_run.Statement.{statement}
 use Rattle.chip_timing.proofs.Windows.clear_run.Tie as tie
 
-field_requires : tie.Need-field-requires
+field_requires : tie.Need-field-last-requires
 field_requires c κs = search rules
 
-field_requires_2 : tie.Need-field-requires-2
+field_requires_2 : tie.Need-field-on-requires
 field_requires_2 c κs = search rules
 
-returns : tie.Need-returns
-returns c = let a = c.before.before.before.before.args in (lit< tt, omega arith, λ clear i h. run_one a.self a.at a.total clear i (omega arith))
+returns : tie.Need-returns-then-last-at
+returns c = let a = c.args in (lit< tt, omega arith, λ clear i h. run_one a.self a.at a.total clear i (omega arith))
 
-add_lesser : tie.Need-overflow-add-lesser
+add_lesser : tie.Need-overflow_add-last
 add_lesser c = search rules
 
 lesser_requires : tie.Need-lesser-requires
 lesser_requires c κs = search rules
 
-sub_result : tie.Need-overflow-sub-result
+sub_result : tie.Need-overflow_sub-result
 sub_result c = search rules
 
-returns_2 : tie.Need-returns-2
+returns_2 : tie.Need-returns-then-at-on
 returns_2 c =
-    let a = c.before.before.before.before.before.before.before.before.args in
-    (omega arith, omega arith, λ clear. run_along a.self a.at a.total clear (c.before.lesser.result - a.at.x) (omega arith) (λ b. omega arith))
+    let a = c.args in
+    (omega arith, omega arith, λ clear. run_along a.self a.at a.total clear (c.lesser.result - a.at.x) (omega arith) (λ b. omega arith))
 
-add_result : tie.Need-overflow-add-result
+add_result : tie.Need-overflow_add-result
 add_result c = search rules
 
-sub_result_2 : tie.Need-overflow-sub-result-2
+sub_result_2 : tie.Need-overflow_sub-result-2
 sub_result_2 c = search rules
 
-returns_3 : tie.Need-returns-3
+returns_3 : tie.Need-returns
 returns_3 c =
-    let a = c.before.before.before.before.before.before.before.args in
-    let last = c.before.before.before.before.before.before.field.result in
+    let a = c.args in
+    let last = c.field-last.result in
     (omega arith, omega arith, λ clear. run_along a.self a.at a.total clear (last + 1 - a.at.x) (omega arith) (λ b. omega arith))
 
 pub clear_run_spec : {M : Type 1} → statement M

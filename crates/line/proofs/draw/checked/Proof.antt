@@ -22,86 +22,77 @@ use Rattle.line.proofs.draw.checked.Tie as tie
 
 -- the first checks passed
 passes :
-    (c : lts.After-enum-told (line_check_reads.Asked, line_check_reads.Learnt, start_reads.Asked, start_reads.Learnt, check_runs_reads.Asked, check_runs_reads.Learnt) reads.Pre reads.Post) →
-    verdict (line_faults c.before.before.before.before.before.args.setup) ≡ ok tt
-passes c = sym c.before.before.line-check.ensures ∙ ap answer_outcome c.enum_told.given.1
+    (c : lts.In_default (line_check_reads.Asked, line_check_reads.Learnt, start_reads.Asked, start_reads.Learnt, check_runs_reads.Asked, check_runs_reads.Learnt) reads.Pre reads.Post) →
+    verdict (line_faults c.args.setup) ≡ ok tt
+passes c = sym c.line_check-allowed.ensures ∙ ap answer_outcome c.in_default.is
 
 -- where the line table starts
 starts :
-    (c : lts.After-known-told2 (line_check_reads.Asked, line_check_reads.Learnt, start_reads.Asked, start_reads.Learnt, check_runs_reads.Asked, check_runs_reads.Learnt) reads.Pre reads.Post) →
-    let given = c.before.before.before.before.before.before.before.before.before.before.args in
-    StartAnswer given.setup.controls given.table.now given.setup.y (Starts c.before.found.given.0.0)
+    (c : lts.In-Starts (line_check_reads.Asked, line_check_reads.Learnt, start_reads.Asked, start_reads.Learnt, check_runs_reads.Asked, check_runs_reads.Learnt) reads.Pre reads.Post) →
+    let given = c.args in
+    StartAnswer given.setup.controls given.table.now given.setup.y (Starts c.in-Starts.start)
 starts c =
-    let given = c.before.before.before.before.before.before.before.before.before.before.args in
-    subst (λ (answer : LineTable). StartAnswer given.setup.controls given.table.now given.setup.y answer) c.before.found.given.1
-    c.before.before.before.start.ensures
+    let given = c.args in
+    subst (λ (answer : LineTable). StartAnswer given.setup.controls given.table.now given.setup.y answer) c.in-Starts.is
+    c.start-found.ensures
 
-line_check_requires : tie.Need-line-check-requires
+line_check_requires : tie.Need-line_check-allowed-requires
 line_check_requires c κs = search rules
 
-enum_known_allowed : tie.Need-enum-known-allowed
+enum_known_allowed : tie.Need-enum_known-allowed
 enum_known_allowed c = search rules
 
-returns : tie.Need-returns
+returns : tie.Need-returns-in-Refused
 returns c =
-    let start = c.before.before.before.before.before.before in
-    let given = start.args in
-    λ normal overlay. line_unfit given.setup (lent_of given.store.now given.table.now normal overlay) (sym c.before.before.before.line-check.ensures ∙ ap answer_outcome c.before.allowed.given.1)
+    let given = c.args in
+    λ normal overlay. line_unfit given.setup (lent_of given.store.now given.table.now normal overlay) (sym c.line_check-allowed.ensures ∙ ap answer_outcome c.in-Refused.is)
 
-enum_told : tie.Need-enum-told
+enum_told : tie.Need-enum_told-1
 enum_told c = search rules
 
-start_requires : tie.Need-start-requires
+start_requires : tie.Need-start-found-requires
 start_requires c κs = search rules
 
-enum_known_found : tie.Need-enum-known-found
+enum_known_found : tie.Need-enum_known-found
 enum_known_found c = search rules
 
-enum_told_2 : tie.Need-enum-told-2
+enum_told_2 : tie.Need-enum_told-in_default-found
 enum_told_2 c = search rules
 
-returns_2 : tie.Need-returns-2
+returns_2 : tie.Need-returns-in_default-found
 returns_2 c =
-    let past = c.before.before.before.before in
-    let start = past.before.before.before.before.before in
-    let given = start.args in
-    subst (λ (answer : LineTable). CheckedAnswer given.setup given.store.now given.table.now answer) (sym c.enum-told2.given.1)
-    (λ normal overlay. line_no_table given.setup (lent_of given.store.now given.table.now normal overlay) (passes past)
-    (rw (sym start.requires.1)
-    (subst (λ (answer : LineTable). StartAnswer given.setup.controls given.table.now given.setup.y answer) c.enum-told2.given.1 c.before.before.start.ensures given.store.now normal overlay)))
+    let given = c.args in
+    subst (λ (answer : LineTable). CheckedAnswer given.setup given.store.now given.table.now answer) (sym c.in_default-found.is)
+    (λ normal overlay. line_no_table given.setup (lent_of given.store.now given.table.now normal overlay) (passes c.before.before.before)
+    (rw (sym c.requires.1)
+    (subst (λ (answer : LineTable). StartAnswer given.setup.controls given.table.now given.setup.y answer) c.in_default-found.is c.start-found.ensures given.store.now normal overlay)))
 
-check_runs_requires : tie.Need-check-runs-requires
+check_runs_requires : tie.Need-check_runs-checked-requires
 check_runs_requires c κs =
-    let past = c.before.before.before.before.before in
-    past.before.before.before.before.before.requires.0 ∙ (fitted _ (passes past)).store_right
+    c.requires.0 ∙ (fitted _ (passes c.before.before.before)).store_right
 
-enum_told_3 : tie.Need-enum-told-3
+enum_told_3 : tie.Need-enum_told-in-Done
 enum_told_3 c = search rules
 
-enum_known_checked : tie.Need-enum-known-checked
+enum_known_checked : tie.Need-enum_known-checked
 enum_known_checked c = search rules
 
-returns_3 : tie.Need-returns-3
+returns_3 : tie.Need-returns-in-Done
 returns_3 c =
-    let found = c.before.before.before in
-    let past = found.before.before.before.before.before in
-    let given = past.before.before.before.before.before.args in
+    let given = c.args in
     record {
-      fit = passes past;
-      starts = starts found given.store.now;
-      entries = subst (λ (answer : Answer). EntriesAnswer given.setup.controls given.store.now given.table.now found.before.found.given.0.0 answer) c.enum-told3.given.1 c.before.before.check-runs.ensures;
+      fit = passes c.before.before.before.before.before;
+      starts = starts c.before.before given.store.now;
+      entries = subst (λ (answer : Answer). EntriesAnswer given.setup.controls given.store.now given.table.now c.in-Starts.start answer) c.in-Done.is c.check_runs-checked.ensures;
     }
 
-returns_4 : tie.Need-returns-4
+returns_4 : tie.Need-returns-in-Refused-checked
 returns_4 c =
-    let found = c.before.before.before.before in
-    let past = found.before.before.before.before.before in
-    let start = past.before.before.before.before.before in
-    let given = start.args in
-    λ normal overlay. line_no_entry given.setup (lent_of given.store.now given.table.now normal overlay) (passes past) {start = found.before.found.given.0.0}
-    (rw (sym start.requires.1) (starts found given.store.now normal overlay))
-    (rw (sym start.requires.1)
-    (subst (λ (answer : Answer). EntriesAnswer given.setup.controls given.store.now given.table.now found.before.found.given.0.0 answer) c.before.checked.given.1 c.before.before.before.check-runs.ensures normal overlay))
+    let given = c.args in
+    λ normal overlay. line_no_entry given.setup (lent_of given.store.now given.table.now normal overlay) (passes c.before.before.before.before.before) {start = c.in-Starts.start}
+    (rw (sym c.requires.1) (starts c.before.before given.store.now normal overlay))
+    (rw (sym c.requires.1)
+    (subst (λ (answer : Answer). EntriesAnswer given.setup.controls given.store.now given.table.now c.in-Starts.start answer) c.in-Refused-checked.is c.check_runs-checked.ensures normal overlay))
 
 pub checked_spec : {M : Type 1} → statement M
 checked_spec =

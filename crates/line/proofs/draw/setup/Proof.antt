@@ -13,7 +13,7 @@ of_requires c κs = search rules
 
 returns : tie.Need-returns
 unfolding setup_of
-returns c = rw (c.before.good2.ensures, c.of.ensures) refl
+returns c = rw (c.good.ensures, c.of.ensures) refl
 
 pub setup_spec : {M : Type 1} → statement M
 setup_spec = tie.close (tie.spec good_requires of_requires returns)

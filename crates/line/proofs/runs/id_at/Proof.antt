@@ -9,25 +9,23 @@ use Rattle.line.proofs.Entries.{served_on, id_off}
 use Rattle.line.proofs.runs.id_at.Statement.{statement}
 use Rattle.line.proofs.runs.id_at.Tie as tie
 
-look_up_requires : tie.Need-look-up-requires
+look_up_requires : tie.Need-look_up-requires
 look_up_requires c κs = search rules
 
-returns : tie.Need-returns
+returns : tie.Need-returns-then-controls
 returns c =
-    let start = c.before.before.before in
-    let given = start.args in
-    served_on given.controls given.table.now given.start given.from given.x c.look_up.result c.before.if1.true start.requires.0 c.look_up.ensures.0 c.look_up.ensures.1
+    let given = c.args in
+    served_on given.controls given.table.now given.start given.from given.x c.look_up.result c.if-controls.true c.requires.0 c.look_up.ensures.0 c.look_up.ensures.1
 
-sub_t7 : tie.Need-overflow-sub-t7
-sub_t7 c = omega (arith, c.before.before.before.requires.1)
+sub_t7 : tie.Need-overflow_sub-result
+sub_t7 c = omega (arith, c.requires.1)
 
-returns_2 : tie.Need-returns-2
+returns_2 : tie.Need-returns
 returns_2 c =
-    let start = c.before.before.before in
-    let given = start.args in
-    let off = c.before.if1.false in (
+    let given = c.args in
+    let off = c.if-controls.false in (
       omega arith,
-      omega (arith, start.requires.1),
+      omega (arith, c.requires.1),
       λ on. absurd (false≢true (sym off ∙ on)),
       λ store normal overlay p low high. id_off given.controls (lent_of store given.table.now normal overlay) (length given.table.now) given.start p off,
     )

@@ -8,30 +8,30 @@ use Rattle.line_formats.proofs.Fitting.{part_half, part_whole, part_unlisted, pa
 use Rattle.line_formats.proofs.Format.part.Statement.{statement}
 use Rattle.line_formats.proofs.Format.part.Tie as tie
 
-widths_requires : tie.Need-widths-requires
+widths_requires : tie.Need-widths-bits-requires
 widths_requires c κs = search rules
 
 -- the bits that `widths` answers are the format's
-bits_are : (c : tie.After-widths) → c.widths.result.bits ≡ (widths_of c.before.args.self).bits
-bits_are c = ap (λ (w : Widths). w.bits) c.widths.ensures
+bits_are : (c : tie.After-widths-bits) → c.widths-bits.result.bits ≡ (widths_of c.args.self).bits
+bits_are c = ap (λ (w : Widths). w.bits) c.widths-bits.ensures
 
-returns : tie.Need-returns
+returns : tie.Need-returns-then-bits-depth
 returns c =
-    let a = c.before.before.before.args in
-    part_half a.self a.depth c.before.match.keys1 (bits_are c.before.before) (omega arith)
+    let a = c.args in
+    part_half a.self a.depth c.in-16.is (bits_are c.before.before) (omega arith)
 
-returns_2 : tie.Need-returns-2
+returns_2 : tie.Need-returns-then-bits-depth-2
 returns_2 c =
-    let a = c.before.before.before.before.args in
-    part_whole a.self a.depth c.before.before.match.keys1 (bits_are c.before.before.before) (omega arith) (omega arith)
+    let a = c.args in
+    part_whole a.self a.depth c.in-16.is (bits_are c.before.before.before) (omega arith) (omega arith)
 
-returns_3 : tie.Need-returns-3
+returns_3 : tie.Need-returns-else-bits-depth-2
 returns_3 c =
-    let a = c.before.before.before.before.args in
-    part_unlisted a.self a.depth c.before.before.match.keys1 (bits_are c.before.before.before) (omega arith) (omega arith)
+    let a = c.args in
+    part_unlisted a.self a.depth c.in-16.is (bits_are c.before.before.before) (omega arith) (omega arith)
 
-returns_4 : tie.Need-returns-4
-returns_4 c = part_no_depth c.before.before.args.self c.before.before.args.depth c.match.rest.1
+returns_4 : tie.Need-returns-in_default
+returns_4 c = part_no_depth c.args.self c.args.depth c.in_default.in_default-own.rest.1
 
 pub part_spec : {M : Type 1} → statement M
 part_spec = tie.close (tie.spec widths_requires returns returns_2 returns_3 returns_4)

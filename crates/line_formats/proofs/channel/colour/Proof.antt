@@ -9,7 +9,7 @@ channel_requires c κs = search rules
 channel_requires_2 : tie.Need-channel-requires-2
 channel_requires_2 c κs = search rules
 
-add_channel : tie.Need-overflow-add-channel
+add_channel : tie.Need-overflow_add-red
 add_channel c = search rules
 
 channel_requires_3 : tie.Need-channel-requires-3

@@ -5,30 +5,30 @@ use Rattle.line_pixels.proofs.LayersCases.{colour_under, colour_of_cursor}
 use Rattle.line_pixels.proofs.Screen.colour_of_pixel.Statement.{statement}
 use Rattle.line_pixels.proofs.Screen.colour_of_pixel.Tie as tie
 
-cursor_at_requires : tie.Need-cursor-at-requires
+cursor_at_requires : tie.Need-cursor_at-number-requires
 cursor_at_requires c κs = search rules
 
-under_cursor_requires : tie.Need-under-cursor-requires
+under_cursor_requires : tie.Need-under_cursor-requires
 under_cursor_requires c κs = search rules
 
-returns : tie.Need-returns
+returns : tie.Need-returns-then-number-eq0
 returns c =
-    let a = c.before.before.before.before.before.before.args in
+    let a = c.args in
     colour_under (pixel_view a.store.now a.normal.now a.overlay.now) a.self a.entry a.x
-    (c.before.before.cursor-at.ensures.0 a.normal.now a.overlay.now)
-    c.before.if1.true
-    c.under-cursor.ensures
+    (c.cursor_at-number.ensures.0 a.normal.now a.overlay.now)
+    c.if-number-eq0.true
+    c.under_cursor.ensures
 
-cursor_shown_requires : tie.Need-cursor-shown-requires
+cursor_shown_requires : tie.Need-cursor_shown-requires
 cursor_shown_requires c κs = search rules
 
-returns_2 : tie.Need-returns-2
+returns_2 : tie.Need-returns
 returns_2 c =
-    let a = c.before.before.before.before.before.before.args in
+    let a = c.args in
     colour_of_cursor (pixel_view a.store.now a.normal.now a.overlay.now) a.self a.entry a.x
-    (c.before.before.cursor-at.ensures.0 a.normal.now a.overlay.now)
-    c.before.if1.false
-    (c.cursor-shown.ensures a.normal.now a.overlay.now)
+    (c.cursor_at-number.ensures.0 a.normal.now a.overlay.now)
+    c.if-number-eq0.false
+    (c.cursor_shown.ensures a.normal.now a.overlay.now)
 
 pub colour_of_pixel_spec : {M : Type 1} → statement M
 colour_of_pixel_spec =

@@ -5,25 +5,25 @@ use Rattle.line_pixels.proofs.LayersCases.{cursor_of_store}
 use Rattle.line_pixels.proofs.Screen.cursor_shown.Statement.{statement}
 use Rattle.line_pixels.proofs.Screen.cursor_shown.Tie as tie
 
-sub_t8 : tie.Need-overflow-sub-t8
+sub_t8 : tie.Need-overflow_sub-register
 sub_t8 c = search rules
 
-stored_requires : tie.Need-stored-requires
+stored_requires : tie.Need-stored-colour-requires
 stored_requires c κs = search rules
 
-cursor_skips_gamma_requires : tie.Need-cursor-skips-gamma-requires
+cursor_skips_gamma_requires : tie.Need-cursor_skips_gamma-requires
 cursor_skips_gamma_requires c κs = search rules
 
-through_gamma_requires : tie.Need-through-gamma-requires
+through_gamma_requires : tie.Need-through_gamma-requires
 through_gamma_requires c κs = search rules
 
 returns : tie.Need-returns
 returns c =
-    let a = c.before.before.before.before.args in
+    let a = c.args in
     λ normal overlay.
     cursor_of_store (pixel_view a.store.now normal overlay) a.self a.entry a.number
-    c.before.before.stored.ensures
-    (rw c.before.cursor-skips-gamma.ensures at (c.through-gamma.ensures normal overlay))
+    c.stored-colour.ensures
+    (rw c.cursor_skips_gamma.ensures at (c.through_gamma.ensures normal overlay))
 
 pub cursor_shown_spec : {M : Type 1} → statement M
 cursor_shown_spec =

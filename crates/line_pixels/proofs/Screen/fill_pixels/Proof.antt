@@ -10,46 +10,45 @@ use Rattle.line_pixels.proofs.Screen.fill_pixels.Statement.{statement}
 use Rattle.line_pixels.proofs.Screen.fill_pixels.Tie as tie
 
 -- the pixels before i are filled with their colours
-abbrev invariant_loop : tie.invariant-loop
+abbrev invariant_loop : tie.invariant-loop-i
 invariant_loop self entry store normal overlay x count out₀ i₀ out i =
     Filling (λ p. value (pixel_view store normal overlay) (colour_of_pixel self entry p)) x count out₀ out i
 
 -- the pixels that are left
-abbrev decreases_loop : tie.decreases-loop
+abbrev decreases_loop : tie.decreases-loop-i
 decreases_loop self entry store normal overlay x count out₀ i₀ out i = count - i
 
-loop_holds : tie.Need-loop-init invariant_loop decreases_loop
-loop_holds c = fill_start c.before.before.before.before.requires.2
+loop_holds : tie.Need-loop-i-init invariant_loop decreases_loop
+loop_holds c = fill_start c.requires.2
 
-add_colour_of_pixel : tie.Need-overflow-add-colour-of-pixel invariant_loop decreases_loop
+add_colour_of_pixel : tie.Need-overflow_add-x invariant_loop decreases_loop
 add_colour_of_pixel c = omega arith
 
-colour_of_pixel_requires : tie.Need-colour-of-pixel-requires invariant_loop decreases_loop
+colour_of_pixel_requires : tie.Need-colour_of_pixel-requires invariant_loop decreases_loop
 colour_of_pixel_requires c κs =
-    let start = c.before.before.before.before.before.before in
-    let before : start.args.x + c.before.loop.i + 1 ≤ start.args.x + start.args.count = omega (arith, c.loop-test.true) in
-    pixels_before start.requires.0 before
+    let before : c.args.x + c.loop-i.i + 1 ≤ c.args.x + c.args.count = omega (arith, c.loop-i-test.true) in
+    pixels_before c.requires.0 before
 
-mul_out : tie.Need-overflow-mul-out invariant_loop decreases_loop
+mul_out : tie.Need-offset_bounds-out-i invariant_loop decreases_loop
 mul_out c = omega arith
 
-slice_write_out : tie.Need-slice-write-out invariant_loop decreases_loop
+slice_write_out : tie.Need-bounds-out-i invariant_loop decreases_loop
 slice_write_out c = omega arith
 
-add_i : tie.Need-overflow-add-i invariant_loop decreases_loop
+add_i : tie.Need-overflow_add-i invariant_loop decreases_loop
 add_i c = omega arith
 
-loop_less : tie.Need-loop-smaller invariant_loop decreases_loop
+loop_less : tie.Need-loop-i-smaller invariant_loop decreases_loop
 loop_less c = omega arith
 
-loop_again : tie.Need-loop-preserved invariant_loop decreases_loop
-loop_again c = fill_next c.before.before.loop.invariant c.before.loop-test.true c.colour-of-pixel.ensures
+loop_again : tie.Need-loop-i-preserved invariant_loop decreases_loop
+loop_again c = fill_next c.loop-i.invariant c.loop-i-test.true c.colour_of_pixel.ensures
 
-same_length : tie.Need-same-length invariant_loop decreases_loop
-same_length c = c.before.loop.invariant.long
+same_length : tie.Need-shape_of-out invariant_loop decreases_loop
+same_length c = c.loop-i.invariant.long
 
 returns : tie.Need-returns invariant_loop decreases_loop
-returns c = fill_over c.before.loop.invariant c.loop-test.false
+returns c = fill_over c.loop-i.invariant c.loop-i-test.false
 
 pub fill_pixels_spec : {M : Type 1} → statement M
 fill_pixels_spec =

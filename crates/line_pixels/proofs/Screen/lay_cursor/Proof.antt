@@ -13,92 +13,89 @@ use Rattle.line_pixels.proofs.Screen.lay_cursor.Statement.{statement}
 use Rattle.line_pixels.proofs.Screen.lay_cursor.Tie as tie
 
 -- the pixels before i have their cursor colours
-abbrev invariant_loop : tie.invariant-loop
+abbrev invariant_loop : tie.invariant-loop-i
 invariant_loop self entry store x count out₀ span i₀ out i =
     (i ≤ span.end) × ((normal overlay : List ℕ) → Changing (λ p under. value (pixel_view store normal overlay) (cursor_or self entry p under)) x count out₀ out i)
 
 -- the pixels that are left
-abbrev decreases_loop : tie.decreases-loop
+abbrev decreases_loop : tie.decreases-loop-i
 decreases_loop self entry store x count out₀ span i₀ out i = span.end - i
 
 -- where the run started
-abbrev start_of : tie.Then1 invariant_loop decreases_loop → tie.Start invariant_loop decreases_loop
+abbrev start_of : tie.In-loop-i invariant_loop decreases_loop → tie.Start invariant_loop decreases_loop
 start_of c = c.before.before.before.before.before.before
 
 -- the pixel of a turn is in the run
-in_count : (c : tie.Then1 invariant_loop decreases_loop) → c.before.before.loop.i < (start_of c).args.count
-in_count c = omega (arith, c.if1.true, c.before.before.before.cursor-span.ensures.ends)
+in_count : (c : tie.In-loop-i invariant_loop decreases_loop) → c.loop-i.i < (start_of c).args.count
+in_count c = omega (arith, c.loop-i-test.true, c.cursor_span-span.ensures.ends)
 
-cursor_span_requires : tie.Need-cursor-span-requires invariant_loop decreases_loop
+cursor_span_requires : tie.Need-cursor_span-span-requires invariant_loop decreases_loop
 cursor_span_requires c κs = search rules
 
-loop_holds : tie.Need-loop-init invariant_loop decreases_loop
+loop_holds : tie.Need-loop-i-init invariant_loop decreases_loop
 loop_holds c =
-    let start = c.before.before.before in
-    let a = start.args in
-    let span = c.cursor-span in (
+    let a = c.args in
+    let span = c.cursor_span-span in (
       span.ensures.starts,
       λ normal overlay.
           let memory = pixel_view a.store.now normal overlay in
-          change_skip span.result.first (change_start start.requires.2) (omega arith) (omega (arith, span.ensures.starts, span.ensures.ends))
+          change_skip span.result.first (change_start c.requires.2) (omega arith) (omega (arith, span.ensures.starts, span.ensures.ends))
           (λ p low high under.
           cursor_idle memory a.self a.entry p under
           (span.ensures.beside p (omega arith) (omega (arith, span.ensures.starts, span.ensures.ends)) (λ inside. omega (arith, inside.0)) memory)),
     )
 
-add_cursor_or : tie.Need-overflow-add-cursor-or invariant_loop decreases_loop
+add_cursor_or : tie.Need-overflow_add-x invariant_loop decreases_loop
 add_cursor_or c = omega (arith, in_count c)
 
-mul_cursor_or : tie.Need-overflow-mul-cursor-or invariant_loop decreases_loop
-mul_cursor_or c = omega (arith, in_count c, c.before.before.loop.invariant.1 [] [])
+mul_cursor_or : tie.Need-offset_bounds-out-i invariant_loop decreases_loop
+mul_cursor_or c = omega (arith, in_count c, c.loop-i.invariant.1 [] [])
 
-slice_read_cursor_or : tie.Need-slice-read-cursor-or invariant_loop decreases_loop
-slice_read_cursor_or c = omega (arith, in_count c.before, c.before.before.before.loop.invariant.1 [] [])
+slice_read_cursor_or : tie.Need-bounds-out-i invariant_loop decreases_loop
+slice_read_cursor_or c = omega (arith, in_count c.before, c.loop-i.invariant.1 [] [])
 
-cursor_or_requires : tie.Need-cursor-or-requires invariant_loop decreases_loop
+cursor_or_requires : tie.Need-cursor_or-requires invariant_loop decreases_loop
 cursor_or_requires c κs = search rules
 
-mul_out : tie.Need-overflow-mul-out invariant_loop decreases_loop
-mul_out c = omega (arith, in_count c.before.before, c.before.before.before.before.loop.invariant.1 [] [])
+mul_out : tie.Need-offset_bounds-out-i-in-loop-i invariant_loop decreases_loop
+mul_out c = omega (arith, in_count c.before.before, c.loop-i.invariant.1 [] [])
 
-slice_write_out : tie.Need-slice-write-out invariant_loop decreases_loop
-slice_write_out c = omega (arith, in_count c.before.before, c.before.before.before.before.loop.invariant.1 [] [])
+slice_write_out : tie.Need-bounds-out-i-in-loop-i invariant_loop decreases_loop
+slice_write_out c = omega (arith, in_count c.before.before, c.loop-i.invariant.1 [] [])
 
-add_i : tie.Need-overflow-add-i invariant_loop decreases_loop
-add_i c = omega (arith, in_count c.before.before, c.before.before.before.before.loop.invariant.1 [] [])
+add_i : tie.Need-overflow_add-i invariant_loop decreases_loop
+add_i c = omega (arith, in_count c.before.before, c.loop-i.invariant.1 [] [])
 
-loop_less : tie.Need-loop-smaller invariant_loop decreases_loop
+loop_less : tie.Need-loop-i-smaller invariant_loop decreases_loop
 loop_less c = omega arith
 
-loop_again : tie.Need-loop-preserved invariant_loop decreases_loop
+loop_again : tie.Need-loop-i-preserved invariant_loop decreases_loop
 loop_again c =
-    let then = c.before.before in
-    let a = (start_of then).args in
-    let inv = then.before.before.loop.invariant.1 in (
-      omega (arith, then.if1.true),
+    let a = (start_of c.before.before).args in
+    let inv = c.loop-i.invariant.1 in (
+      omega (arith, c.loop-i-test.true),
       λ normal overlay.
-          change_next 0 (inv normal overlay) (in_count then)
-          (c.cursor-or.ensures normal overlay
+          change_next 0 (inv normal overlay) (in_count c.before.before)
+          (c.cursor_or.ensures normal overlay
           ∙ ap
-          (λ (under : ℕ). value (pixel_view a.store.now normal overlay) (cursor_or a.self a.entry (a.x + then.before.before.loop.i) under))
-          (still then.before.before.loop.i 0 (inv normal overlay) (omega arith))),
+          (λ (under : ℕ). value (pixel_view a.store.now normal overlay) (cursor_or a.self a.entry (a.x + c.loop-i.i) under))
+          (still c.loop-i.i 0 (inv normal overlay) (omega arith))),
     )
 
-same_length : tie.Need-same-length invariant_loop decreases_loop
-same_length c = (c.before.before.loop.invariant.1 [] []).long
+same_length : tie.Need-shape_of-out invariant_loop decreases_loop
+same_length c = (c.loop-i.invariant.1 [] []).long
 
 returns : tie.Need-returns invariant_loop decreases_loop
 returns c =
-    let start = c.before.before.before.before.before.before in
-    let a = start.args in
-    let span = c.before.before.before.cursor-span in
+    let a = c.args in
+    let span = c.cursor_span-span in
     λ normal overlay.
     let memory = pixel_view a.store.now normal overlay in
     change_over
-    (change_skip a.count (c.before.before.loop.invariant.1 normal overlay) (omega (arith, c.before.before.loop.invariant.0, span.ensures.ends)) (omega arith)
+    (change_skip a.count (c.loop-i.invariant.1 normal overlay) (omega (arith, c.loop-i.invariant.0, span.ensures.ends)) (omega arith)
     (λ p low high under.
     cursor_idle memory a.self a.entry p under
-    (span.ensures.beside p (omega arith) (omega arith) (λ inside. omega (arith, inside.1, c.if1.false)) memory)))
+    (span.ensures.beside p (omega arith) (omega arith) (λ inside. omega (arith, inside.1, c.loop-i-test.false)) memory)))
     (omega arith)
 
 pub lay_cursor_spec : {M : Type 1} → statement M

@@ -12,48 +12,47 @@ use Rattle.line_pixels.proofs.correction.correct_few.Statement.{statement}
 use Rattle.line_pixels.proofs.correction.correct_few.Tie as tie
 
 -- the words before i went through gamma, whatever the rows hold
-abbrev invariant_loop : tie.invariant-loop
+abbrev invariant_loop : tie.invariant-loop-i
 invariant_loop store words₀ count i₀ words i =
     (normal overlay : List ℕ) → Changing (λ _ word. value (pixel_view store normal overlay) (through_gamma false word)) 0 count words₀ words i
 
 -- the words that are left
-abbrev decreases_loop : tie.decreases-loop
+abbrev decreases_loop : tie.decreases-loop-i
 decreases_loop store words₀ count i₀ words i = count - i
 
-loop_holds : tie.Need-loop-init invariant_loop decreases_loop
-loop_holds c = λ normal overlay. change_start c.before.before.requires.1
+loop_holds : tie.Need-loop-i-init invariant_loop decreases_loop
+loop_holds c = λ normal overlay. change_start c.requires.1
 
-mul_through_gamma : tie.Need-overflow-mul-through-gamma invariant_loop decreases_loop
-mul_through_gamma c = omega (arith, c.before.loop.invariant [] [])
+mul_through_gamma : tie.Need-offset_bounds-words-i invariant_loop decreases_loop
+mul_through_gamma c = omega (arith, c.loop-i.invariant [] [])
 
-slice_read_through_gamma : tie.Need-slice-read-through-gamma invariant_loop decreases_loop
-slice_read_through_gamma c = omega (arith, c.before.before.loop.invariant [] [])
+slice_read_through_gamma : tie.Need-bounds-words-i invariant_loop decreases_loop
+slice_read_through_gamma c = omega (arith, c.loop-i.invariant [] [])
 
-through_gamma_requires : tie.Need-through-gamma-requires invariant_loop decreases_loop
+through_gamma_requires : tie.Need-through_gamma-requires invariant_loop decreases_loop
 through_gamma_requires c κs = search rules
 
-mul_words : tie.Need-overflow-mul-words invariant_loop decreases_loop
-mul_words c = omega (arith, c.before.before.before.loop.invariant [] [])
+mul_words : tie.Need-offset_bounds-words-i-in-loop-i invariant_loop decreases_loop
+mul_words c = omega (arith, c.loop-i.invariant [] [])
 
-slice_write_words : tie.Need-slice-write-words invariant_loop decreases_loop
-slice_write_words c = omega (arith, c.before.before.before.loop.invariant [] [])
+slice_write_words : tie.Need-bounds-words-i-in-loop-i invariant_loop decreases_loop
+slice_write_words c = omega (arith, c.loop-i.invariant [] [])
 
-add_i : tie.Need-overflow-add-i invariant_loop decreases_loop
-add_i c = omega (arith, c.before.before.before.loop.invariant [] [])
+add_i : tie.Need-overflow_add-i invariant_loop decreases_loop
+add_i c = omega (arith, c.loop-i.invariant [] [])
 
-loop_less : tie.Need-loop-smaller invariant_loop decreases_loop
+loop_less : tie.Need-loop-i-smaller invariant_loop decreases_loop
 loop_less c = omega arith
 
-loop_again : tie.Need-loop-preserved invariant_loop decreases_loop
+loop_again : tie.Need-loop-i-preserved invariant_loop decreases_loop
 loop_again c =
-    let at_loop = c.before.before.before in
-    λ normal overlay. change_here 0 (at_loop.loop.invariant normal overlay) c.before.before.loop-test.true (c.through-gamma.ensures normal overlay)
+    λ normal overlay. change_here 0 (c.loop-i.invariant normal overlay) c.loop-i-test.true (c.through_gamma.ensures normal overlay)
 
-same_length : tie.Need-same-length invariant_loop decreases_loop
-same_length c = (c.before.loop.invariant [] []).long
+same_length : tie.Need-shape_of-words invariant_loop decreases_loop
+same_length c = (c.loop-i.invariant [] []).long
 
 returns : tie.Need-returns invariant_loop decreases_loop
-returns c = λ normal overlay. change_over (c.before.loop.invariant normal overlay) c.loop-test.false
+returns c = λ normal overlay. change_over (c.loop-i.invariant normal overlay) c.loop-i-test.false
 
 pub correct_few_spec : {M : Type 1} → statement M
 correct_few_spec =

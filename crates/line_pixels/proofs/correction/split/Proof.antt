@@ -10,70 +10,69 @@ use Rattle.line_pixels.proofs.correction.split.Statement.{statement}
 use Rattle.line_pixels.proofs.correction.split.Tie as tie
 
 -- each table has its channel of the gamma words before k
-abbrev invariant_loop : tie.invariant-loop
+abbrev invariant_loop : tie.invariant-loop-k
 invariant_loop store red₀ green₀ blue₀ k₀ red green blue k =
     Filling (gamma_red store) 0 256 red₀ red k × Filling (gamma_green store) 0 256 green₀ green k × Filling (gamma_blue store) 0 256 blue₀ blue k
 
 -- the gamma words that are left
-abbrev decreases_loop : tie.decreases-loop
+abbrev decreases_loop : tie.decreases-loop-k
 decreases_loop store red₀ green₀ blue₀ k₀ red green blue k = 256 - k
 
-loop_holds : tie.Need-loop-init invariant_loop decreases_loop
+loop_holds : tie.Need-loop-k-init invariant_loop decreases_loop
 loop_holds c = (fill_start (omega arith), fill_start (omega arith), fill_start (omega arith))
 
-add_word : tie.Need-overflow-add-word invariant_loop decreases_loop
+add_word : tie.Need-overflow_add-word invariant_loop decreases_loop
 add_word c = search rules
 
-mul_word : tie.Need-overflow-mul-word invariant_loop decreases_loop
+mul_word : tie.Need-offset_bounds-store-k invariant_loop decreases_loop
 mul_word c = search rules
 
-shared_slice_read_word : tie.Need-shared-slice-read-word invariant_loop decreases_loop
+shared_slice_read_word : tie.Need-bounds-store-k invariant_loop decreases_loop
 shared_slice_read_word c = search rules
 
-mul_red : tie.Need-overflow-mul-red invariant_loop decreases_loop
+mul_red : tie.Need-overflow_mul-red invariant_loop decreases_loop
 mul_red c = search rules
 
-mul_red_2 : tie.Need-overflow-mul-red-2 invariant_loop decreases_loop
+mul_red_2 : tie.Need-offset_bounds-red-k invariant_loop decreases_loop
 mul_red_2 c = search rules
 
-element_write_red : tie.Need-element-write-red invariant_loop decreases_loop
+element_write_red : tie.Need-bounds-red-k invariant_loop decreases_loop
 element_write_red c = search rules
 
-mul_green : tie.Need-overflow-mul-green invariant_loop decreases_loop
+mul_green : tie.Need-overflow_mul-green invariant_loop decreases_loop
 mul_green c = search rules
 
-mul_green_2 : tie.Need-overflow-mul-green-2 invariant_loop decreases_loop
+mul_green_2 : tie.Need-offset_bounds-green-k invariant_loop decreases_loop
 mul_green_2 c = search rules
 
-element_write_green : tie.Need-element-write-green invariant_loop decreases_loop
+element_write_green : tie.Need-bounds-green-k invariant_loop decreases_loop
 element_write_green c = search rules
 
-mul_blue : tie.Need-overflow-mul-blue invariant_loop decreases_loop
+mul_blue : tie.Need-offset_bounds-blue-k invariant_loop decreases_loop
 mul_blue c = search rules
 
-element_write_blue : tie.Need-element-write-blue invariant_loop decreases_loop
+element_write_blue : tie.Need-bounds-blue-k invariant_loop decreases_loop
 element_write_blue c = search rules
 
-add_k : tie.Need-overflow-add-k invariant_loop decreases_loop
+add_k : tie.Need-overflow_add-k invariant_loop decreases_loop
 add_k c = search rules
 
-loop_less : tie.Need-loop-smaller invariant_loop decreases_loop
+loop_less : tie.Need-loop-k-smaller invariant_loop decreases_loop
 loop_less c = omega arith
 
-loop_again : tie.Need-loop-preserved invariant_loop decreases_loop
+loop_again : tie.Need-loop-k-preserved invariant_loop decreases_loop
 loop_again c =
-    let at_loop = c.before.before in
-    let store = at_loop.before.args.store.now in
-    let inv = at_loop.loop.invariant in
-    let more = c.before.loop-test.true in
-    let from_0 = sym (zero-add at_loop.loop.k) in
+    let store = c.args.store.now in
+    let inv = c.loop-k.invariant in
+    let more = c.loop-k-test.true in
+    let from_0 = sym (zero-add c.loop-k.k) in
     (fill_next inv.0 more (ap (gamma_red store) from_0), fill_next inv.1 more (ap (gamma_green store) from_0), fill_next inv.2 more (ap (gamma_blue store) from_0))
 
 returns : tie.Need-returns invariant_loop decreases_loop
 returns c =
-    let a = c.before.before.args in
-    let inv = c.before.loop.invariant in
-    let all = c.loop-test.false in
+    let a = c.args in
+    let inv = c.loop-k.invariant in
+    let all = c.loop-k-test.false in
     λ k below. record {
       in_red = looked_up (gamma_red a.store.now) a.red.now 256 k 0 (fill_over inv.0 all) below;
       in_green = looked_up (gamma_green a.store.now) a.green.now 256 k 0 (fill_over inv.1 all) below;

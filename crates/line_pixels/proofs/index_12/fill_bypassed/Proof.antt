@@ -17,21 +17,21 @@ use Rattle.line_pixels.proofs.index_12.fill_bypassed.Statement.{statement}
 use Rattle.line_pixels.proofs.index_12.fill_bypassed.Tie as tie
 
 -- where the run started
-abbrev start_of : tie.After-map → tie.Start
+abbrev start_of : tie.After-map-1 → tie.Start
 start_of c = c.before.before.before.before.before
 
 -- the samples of the run are held by two bytes of n, the first by those from `at` on
-abbrev Held : tie.After-map → ℕ → ℕ → Type 0
+abbrev Held : tie.After-map-1 → ℕ → ℕ → Type 0
 Held c n at = let a = (start_of c).args in HeldBy a.depth a.entry a.x n 2 at
 
-module _ (c : tie.After-map) where
+module _ (c : tie.After-map-1) where
   -- the entry fits its depth
   says : let a = (start_of c).args in Says a.depth a.entry
   says = said_says (start_of c).args.depth (start_of c).args.entry (start_of c).requires.0.said
 
   -- each element of the normal row is a byte
   all_bytes : AllBytes (start_of c).args.normal.now
-  all_bytes place = omega (arith, c.before.before.before.shared-slice-known2.given place)
+  all_bytes place = omega (arith, c.shared_slice_known-2-1.given place)
 
   module _ {n at : ℕ} (held : Held c n at) where
     -- the bytes before the run are in the row
@@ -51,58 +51,56 @@ module _ (c : tie.After-map) where
         run_indexed a.store.now a.normal.now held says all_bytes (start_of c).requires.1 (λ word. word) (λ overlay word. gamma_skipped (pixel_view a.store.now a.normal.now overlay) word (start_of c).requires.2) a.count a.out.now ran
 
 -- at depth 32
-held_1 : (c : tie.Then1) → let a = (start_of c.before).args in Held c.before 4 (4 * a.x + 2 - a.entry.low / 8)
-held_1 c = held_at_32 (start_of c.before).args.x (says c.before) (start_of c.before).requires.1 c.if1.true
+held_1 : (c : tie.Then-depth-eq32) → let a = (start_of c.before).args in Held c.before 4 (4 * a.x + 2 - a.entry.low / 8)
+held_1 c = held_at_32 (start_of c.before).args.x (says c.before) (start_of c.before).requires.1 c.if-depth-eq32.true
 
 -- at depth 16
-held_2 : (c : tie.Else1) → Held c.before 2 (2 * (start_of c.before).args.x)
-held_2 c = held_at_16 (start_of c.before).args.x (says c.before) (start_of c.before).requires.1 c.if1.false
+held_2 : (c : tie.Else-depth-eq32) → Held c.before 2 (2 * (start_of c.before).args.x)
+held_2 c = held_at_16 (start_of c.before).args.x (says c.before) (start_of c.before).requires.1 c.if-depth-eq32.false
 
-cast_high : tie.Need-overflow-cast-high
+cast_high : tie.Need-overflow_cast-high
 cast_high c = search rules
 
-sub_map : tie.Need-overflow-sub-map
+sub_map : tie.Need-slice_bounds-map-count
 sub_map c = search rules
 
-part_map_start : tie.Need-slice-bounds-map-start
+part_map_start : tie.Need-slice_bounds-map-start
 part_map_start c = search rules
 
-part_map_end : tie.Need-slice-bounds-map-end
+part_map_end : tie.Need-slice_bounds-map-end
 part_map_end c = search rules
 
-mul_map_run : tie.Need-overflow-mul-map-run
-mul_map_run c = let then = c in omega (arith, run_before then.before (held_1 then))
+mul_map_run : tie.Need-overflow_mul-x
+mul_map_run c = omega (arith, run_before c.before (held_1 c))
 
-add_map_run : tie.Need-overflow-add-map-run
-add_map_run c = let then = c in omega (arith, run_before then.before (held_1 then))
+add_map_run : tie.Need-overflow_add-x
+add_map_run c = omega (arith, run_before c.before (held_1 c))
 
-sub_map_run : tie.Need-overflow-sub-map-run
+sub_map_run : tie.Need-overflow_sub-x
 sub_map_run c = omega (arith, (held_1 (c)).within)
 
-map_run_requires : tie.Need-map-run-requires
+map_run_requires : tie.Need-map_run-requires
 map_run_requires c κs =
-    let then = c.before in
-    (search rules, in_row then.before (held_1 then), (start_of then.before).requires.3)
+    (search rules, in_row c.before.before (held_1 c.before), (start_of c.before.before).requires.3)
 
-mul_map_run_2 : tie.Need-overflow-mul-map-run-2
-mul_map_run_2 c = let else = c in omega (arith, run_before else.before (held_2 else))
+mul_map_run_2 : tie.Need-overflow_mul-x-else-depth-eq32
+mul_map_run_2 c = omega (arith, run_before c.before (held_2 c))
 
-map_run_requires_2 : tie.Need-map-run-requires-2
+map_run_requires_2 : tie.Need-map_run-requires-else-depth-eq32
 map_run_requires_2 c κs =
-    let else = c.before in
-    (search rules, in_row else.before (held_2 else), (start_of else.before).requires.3)
+    (search rules, in_row c.before.before (held_2 c.before), (start_of c.before.before).requires.3)
 
-same_length : tie.Need-same-length
+same_length : tie.Need-shape_of-out-then-depth-eq32
 same_length c = search rules
 
-returns : tie.Need-returns
-returns c = let then = c.before.before.before.before in fills then.before (held_1 then) c.before.before.map-run.ensures
+returns : tie.Need-returns-then-depth-eq32
+returns c = fills c.before.before.before.before.before (held_1 c.before.before.before.before) c.map_run.ensures
 
-same_length_2 : tie.Need-same-length-2
+same_length_2 : tie.Need-shape_of-out-else-depth-eq32
 same_length_2 c = search rules
 
-returns_2 : tie.Need-returns-2
-returns_2 c = let else = c.before.before.before.before in fills else.before (held_2 else) c.before.before.map-run2.ensures
+returns_2 : tie.Need-returns-else-depth-eq32
+returns_2 c = fills c.before.before.before.before.before (held_2 c.before.before.before.before) c.map_run-else-depth-eq32.ensures
 
 pub fill_bypassed_spec : {M : Type 1} → statement M
 fill_bypassed_spec =

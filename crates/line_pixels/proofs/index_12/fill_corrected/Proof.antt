@@ -20,31 +20,31 @@ use Rattle.line_pixels.proofs.index_12.fill_corrected.Statement.{statement}
 use Rattle.line_pixels.proofs.index_12.fill_corrected.Tie as tie
 
 -- where the run started
-abbrev start_of : tie.After-map → tie.Start
+abbrev start_of : tie.After-map-1 → tie.Start
 start_of c = c.before.before.before.before.before.before.before.before.before
 
 -- the samples of the run are held by two bytes of n, the first by those from `at` on
-abbrev Held : tie.After-map → ℕ → ℕ → Type 0
+abbrev Held : tie.After-map-1 → ℕ → ℕ → Type 0
 Held c n at = let a = (start_of c).args in HeldBy a.depth a.entry a.x n 2 at
 
-module _ (c : tie.After-map) where
+module _ (c : tie.After-map-1) where
   -- the entry fits its depth
   says : let a = (start_of c).args in Says a.depth a.entry
   says = said_says (start_of c).args.depth (start_of c).args.entry (start_of c).requires.0.said
 
   -- each element of the normal row is a byte
   all_bytes : AllBytes (start_of c).args.normal.now
-  all_bytes place = omega (arith, c.before.before.before.before.before.before.before.shared-slice-known2.given place)
+  all_bytes place = omega (arith, c.shared_slice_known-2-1.given place)
 
   -- a word through the tables into which the gamma map is split
   abbrev shown : ℕ → ℕ
-  shown word = let made = c.before.before in by_tables made.split.new.1.0 made.split.new.1.1.0 made.split.new.1.1.1.0 word
+  shown word = by_tables c.split.new.red c.split.new.green c.split.new.blue word
 
   -- that is the word through gamma
   gamma : (overlay : List ℕ) (word : ℕ) → let a = (start_of c).args in shown word ≡ value (pixel_view a.store.now a.normal.now overlay) (through_gamma a.entry.bypass word)
   gamma overlay word =
       let a = (start_of c).args in
-      tables_correct c.before.before.split.ensures a.normal.now overlay word
+      tables_correct c.split.ensures a.normal.now overlay word
       ∙ ap (λ (skips : Bool). value (pixel_view a.store.now a.normal.now overlay) (through_gamma skips word)) (sym (start_of c).requires.2)
 
   module _ {n at : ℕ} (held : Held c n at) where
@@ -65,61 +65,59 @@ module _ (c : tie.After-map) where
         run_indexed a.store.now a.normal.now held says all_bytes (start_of c).requires.1 shown gamma a.count a.out.now ran
 
 -- at depth 32
-held_1 : (c : tie.Then1) → let a = (start_of c.before).args in Held c.before 4 (4 * a.x + 2 - a.entry.low / 8)
-held_1 c = held_at_32 (start_of c.before).args.x (says c.before) (start_of c.before).requires.1 c.if1.true
+held_1 : (c : tie.Then-depth-eq32) → let a = (start_of c.before).args in Held c.before 4 (4 * a.x + 2 - a.entry.low / 8)
+held_1 c = held_at_32 (start_of c.before).args.x (says c.before) (start_of c.before).requires.1 c.if-depth-eq32.true
 
 -- at depth 16
-held_2 : (c : tie.Else1) → Held c.before 2 (2 * (start_of c.before).args.x)
-held_2 c = held_at_16 (start_of c.before).args.x (says c.before) (start_of c.before).requires.1 c.if1.false
+held_2 : (c : tie.Else-depth-eq32) → Held c.before 2 (2 * (start_of c.before).args.x)
+held_2 c = held_at_16 (start_of c.before).args.x (says c.before) (start_of c.before).requires.1 c.if-depth-eq32.false
 
 split_requires : tie.Need-split-requires
 split_requires c κs = search rules
 
-cast_high : tie.Need-overflow-cast-high
+cast_high : tie.Need-overflow_cast-high
 cast_high c = search rules
 
-sub_map : tie.Need-overflow-sub-map
+sub_map : tie.Need-slice_bounds-map-count
 sub_map c = search rules
 
-part_map_start : tie.Need-slice-bounds-map-start
+part_map_start : tie.Need-slice_bounds-map-start
 part_map_start c = search rules
 
-part_map_end : tie.Need-slice-bounds-map-end
+part_map_end : tie.Need-slice_bounds-map-end
 part_map_end c = search rules
 
-mul_map_run_by : tie.Need-overflow-mul-map-run-by
-mul_map_run_by c = let then = c.before.before.before in omega (arith, run_before then.before (held_1 then), then)
+mul_map_run_by : tie.Need-overflow_mul-x
+mul_map_run_by c = omega (arith, run_before c.before.before.before.before (held_1 c.before.before.before), c.before.before.before)
 
-add_map_run_by : tie.Need-overflow-add-map-run-by
-add_map_run_by c = let then = c.before.before.before in omega (arith, run_before then.before (held_1 then), then)
+add_map_run_by : tie.Need-overflow_add-x
+add_map_run_by c = omega (arith, run_before c.before.before.before.before (held_1 c.before.before.before), c.before.before.before)
 
-sub_map_run_by : tie.Need-overflow-sub-map-run-by
+sub_map_run_by : tie.Need-overflow_sub-x
 sub_map_run_by c = omega (arith, (held_1 c.before.before.before).within)
 
-map_run_by_requires : tie.Need-map-run-by-requires
+map_run_by_requires : tie.Need-map_run_by-requires
 map_run_by_requires c κs =
-    let then = c.before.before.before.before in
-    (search rules, tables_fit then.before.before.before.split.ensures, in_row then.before (held_1 then), (start_of then.before).requires.3)
+    (search rules, tables_fit c.split.ensures, in_row c.before.before.before.before.before (held_1 c.before.before.before.before), (start_of c.before.before.before.before.before).requires.3)
 
-mul_map_run_by_2 : tie.Need-overflow-mul-map-run-by-2
-mul_map_run_by_2 c = let else = c.before.before.before in omega (arith, run_before else.before (held_2 else), else)
+mul_map_run_by_2 : tie.Need-overflow_mul-x-else-depth-eq32
+mul_map_run_by_2 c = omega (arith, run_before c.before.before.before.before (held_2 c.before.before.before), c.before.before.before)
 
-map_run_by_requires_2 : tie.Need-map-run-by-requires-2
+map_run_by_requires_2 : tie.Need-map_run_by-requires-else-depth-eq32
 map_run_by_requires_2 c κs =
-    let else = c.before.before.before.before in
-    (search rules, tables_fit else.before.before.before.split.ensures, in_row else.before (held_2 else), (start_of else.before).requires.3)
+    (search rules, tables_fit c.split.ensures, in_row c.before.before.before.before.before (held_2 c.before.before.before.before), (start_of c.before.before.before.before.before).requires.3)
 
-same_length : tie.Need-same-length
+same_length : tie.Need-shape_of-out-then-depth-eq32
 same_length c = search rules
 
-returns : tie.Need-returns
-returns c = let then = c.before.before.before.before.before.before.before in fills then.before (held_1 then) c.before.before.map-run-by.ensures
+returns : tie.Need-returns-then-depth-eq32
+returns c = fills c.before.before.before.before.before.before.before.before (held_1 c.before.before.before.before.before.before.before) c.map_run_by.ensures
 
-same_length_2 : tie.Need-same-length-2
+same_length_2 : tie.Need-shape_of-out-else-depth-eq32
 same_length_2 c = search rules
 
-returns_2 : tie.Need-returns-2
-returns_2 c = let else = c.before.before.before.before.before.before.before in fills else.before (held_2 else) c.before.before.map-run-by2.ensures
+returns_2 : tie.Need-returns-else-depth-eq32
+returns_2 c = fills c.before.before.before.before.before.before.before.before (held_2 c.before.before.before.before.before.before.before) c.map_run_by-else-depth-eq32.ensures
 
 pub fill_corrected_spec : {M : Type 1} → statement M
 fill_corrected_spec =

@@ -8,36 +8,36 @@ use Rattle.line_pixels.proofs.Gamma.{gamma_words, gamma_skipped, gamma_applied}
 use Rattle.line_pixels.proofs.layers.through_gamma.Statement.{statement}
 use Rattle.line_pixels.proofs.layers.through_gamma.Tie as tie
 
-returns : tie.Need-returns
+returns : tie.Need-returns-then-skips
 returns c =
-    let a = c.before.before.args in
-    λ normal overlay. gamma_skipped (pixel_view a.store.now normal overlay) a.word c.if1.true
+    let a = c.args in
+    λ normal overlay. gamma_skipped (pixel_view a.store.now normal overlay) a.word c.if-skips.true
 
-sub_corrected : tie.Need-overflow-sub-corrected
+sub_corrected : tie.Need-slice_bounds-corrected-count
 sub_corrected c = search rules
 
-part_corrected_start : tie.Need-slice-bounds-corrected-start
+part_corrected_start : tie.Need-slice_bounds-corrected-start
 part_corrected_start c = search rules
 
-part_corrected_end : tie.Need-slice-bounds-corrected-end
+part_corrected_end : tie.Need-slice_bounds-corrected-end
 part_corrected_end c = search rules
 
 of_requires : tie.Need-of-requires
 of_requires c κs = search rules
 
-corrected_requires : tie.Need-corrected-requires
+corrected_requires : tie.Need-corrected-corrected-requires
 corrected_requires c κs = search rules
 
 word_requires : tie.Need-word-requires
 word_requires c κs = search rules
 
-returns_2 : tie.Need-returns-2
+returns_2 : tie.Need-returns
 returns_2 c =
-    let a = c.before.before.before.before.before.before.args in
+    let a = c.args in
     λ normal overlay.
     c.word.ensures.0
-    ∙ ap word_of (c.before.corrected.ensures ∙ ap (corrected (gamma_words a.store.now)) c.before.before.of.ensures)
-    ∙ gamma_applied a.store.now normal overlay a.word c.before.before.before.before.if1.false
+    ∙ ap word_of (c.corrected-corrected.ensures ∙ ap (corrected (gamma_words a.store.now)) c.of.ensures)
+    ∙ gamma_applied a.store.now normal overlay a.word c.if-skips.false
 
 pub through_gamma_spec : {M : Type 1} → statement M
 through_gamma_spec =

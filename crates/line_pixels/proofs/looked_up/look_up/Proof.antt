@@ -10,146 +10,142 @@ use Rattle.line_pixels.proofs.looked_up.look_up.Statement.{statement}
 use Rattle.line_pixels.proofs.looked_up.look_up.Tie as tie
 
 -- the pixels before i have their colours
-abbrev invariant_loop : tie.invariant-loop
+abbrev invariant_loop : tie.invariant-loop-i
 invariant_loop colours apart normal first count out₀ i₀ out i = Filling (λ k. get_or colours (get_or normal (first + apart * k) 0) 0) 0 count out₀ out i
 
 -- the pixels that are left
-abbrev decreases_loop : tie.decreases-loop
+abbrev decreases_loop : tie.decreases-loop-i
 decreases_loop colours apart normal first count out₀ i₀ out i = count - i
 
 -- what the first loop left is gone on with
-abbrev invariant_loop2 : tie.invariant-loop2
+abbrev invariant_loop2 : tie.invariant-loop-i-2
 invariant_loop2 colours apart normal first count out₀ i₀ out i =
     (room : List ℕ)
     → Filling (λ k. get_or colours (get_or normal (first + apart * k) 0) 0) 0 count room out₀ i₀
     → Filling (λ k. get_or colours (get_or normal (first + apart * k) 0) 0) 0 count room out i
 
 -- the pixels that are left
-abbrev decreases_loop2 : tie.decreases-loop2
+abbrev decreases_loop2 : tie.decreases-loop-i-2
 decreases_loop2 colours apart normal first count out₀ i₀ out i = count - i
 
 -- where the run started
-abbrev start_of : tie.At-loop invariant_loop decreases_loop invariant_loop2 decreases_loop2 → tie.Start invariant_loop decreases_loop invariant_loop2 decreases_loop2
+abbrev start_of : tie.At-loop-i invariant_loop decreases_loop invariant_loop2 decreases_loop2 → tie.Start invariant_loop decreases_loop invariant_loop2 decreases_loop2
 start_of c = c.before.before.before
 
 -- a pixel of the run is in the row
-lent : (c : tie.At-loop invariant_loop decreases_loop invariant_loop2 decreases_loop2) (k : ℕ)
+lent : (c : tie.At-loop-i invariant_loop decreases_loop invariant_loop2 decreases_loop2) (k : ℕ)
     → let a = (start_of c).args in
     k < a.count → a.first + a.apart * k < length a.normal.now
 lent c k h = (start_of c).requires.0 k h
 
 -- the pixels before i have their colours in the second loop too
-on : (c : tie.At-loop2 invariant_loop decreases_loop invariant_loop2 decreases_loop2)
+on : (c : tie.At-loop-i-2 invariant_loop decreases_loop invariant_loop2 decreases_loop2)
     → let a = (start_of c.before.before).args in
-    Filling (λ k. get_or a.colours.now (get_or a.normal.now (a.first + a.apart * k) 0) 0) 0 a.count a.out.now c.loop2.out c.loop2.i
-on c = c.loop2.invariant _ c.before.before.loop.invariant
+    Filling (λ k. get_or a.colours.now (get_or a.normal.now (a.first + a.apart * k) 0) 0) 0 a.count a.out.now c.loop-i-2.out c.loop-i-2.i
+on c = c.loop-i-2.invariant _ c.loop-i.invariant
 
-loop_holds : tie.Need-loop-init invariant_loop decreases_loop invariant_loop2 decreases_loop2
-loop_holds c = fill_start c.before.before.requires.2
+loop_holds : tie.Need-loop-i-init invariant_loop decreases_loop invariant_loop2 decreases_loop2
+loop_holds c = fill_start c.requires.2
 
-add_loop : tie.Need-overflow-add-loop invariant_loop decreases_loop invariant_loop2 decreases_loop2
+add_loop : tie.Need-overflow_add-i invariant_loop decreases_loop invariant_loop2 decreases_loop2
 add_loop c = omega arith
 
-add_colour_at : tie.Need-overflow-add-colour-at invariant_loop decreases_loop invariant_loop2 decreases_loop2
+add_colour_at : tie.Need-overflow_add-i-in-loop-i invariant_loop decreases_loop invariant_loop2 decreases_loop2
 add_colour_at c = omega arith
 
-mul_colour_at : tie.Need-overflow-mul-colour-at invariant_loop decreases_loop invariant_loop2 decreases_loop2
-mul_colour_at c = omega (arith, lent c.before (c.before.loop.i + 1) (omega arith))
+mul_colour_at : tie.Need-overflow_mul-apart invariant_loop decreases_loop invariant_loop2 decreases_loop2
+mul_colour_at c = omega (arith, lent c.before (c.loop-i.i + 1) (omega arith))
 
-add_colour_at_2 : tie.Need-overflow-add-colour-at-2 invariant_loop decreases_loop invariant_loop2 decreases_loop2
-add_colour_at_2 c = omega (arith, lent c.before (c.before.loop.i + 1) (omega arith))
+add_colour_at_2 : tie.Need-overflow_add-first invariant_loop decreases_loop invariant_loop2 decreases_loop2
+add_colour_at_2 c = omega (arith, lent c.before (c.loop-i.i + 1) (omega arith))
 
-colour_at_requires : tie.Need-colour-at-requires invariant_loop decreases_loop invariant_loop2 decreases_loop2
-colour_at_requires c κs = (lent c.before (c.before.loop.i + 1) (omega arith), (start_of c.before).pre.1)
+colour_at_requires : tie.Need-colour_at-second-requires invariant_loop decreases_loop invariant_loop2 decreases_loop2
+colour_at_requires c κs = (lent c.before (c.loop-i.i + 1) (omega arith), (start_of c.before).requires.1)
 
-add_colour_at_3 : tie.Need-overflow-add-colour-at-3 invariant_loop decreases_loop invariant_loop2 decreases_loop2
+add_colour_at_3 : tie.Need-overflow_add-i-in-loop-i-2 invariant_loop decreases_loop invariant_loop2 decreases_loop2
 add_colour_at_3 c = omega arith
 
-mul_colour_at_2 : tie.Need-overflow-mul-colour-at-2 invariant_loop decreases_loop invariant_loop2 decreases_loop2
-mul_colour_at_2 c = omega (arith, lent c.before.before (c.before.before.loop.i + 2) (omega arith))
+mul_colour_at_2 : tie.Need-overflow_mul-apart-in-loop-i invariant_loop decreases_loop invariant_loop2 decreases_loop2
+mul_colour_at_2 c = omega (arith, lent c.before.before (c.loop-i.i + 2) (omega arith))
 
-add_colour_at_4 : tie.Need-overflow-add-colour-at-4 invariant_loop decreases_loop invariant_loop2 decreases_loop2
-add_colour_at_4 c = omega (arith, lent c.before.before (c.before.before.loop.i + 2) (omega arith))
+add_colour_at_4 : tie.Need-overflow_add-first-in-loop-i invariant_loop decreases_loop invariant_loop2 decreases_loop2
+add_colour_at_4 c = omega (arith, lent c.before.before (c.loop-i.i + 2) (omega arith))
 
-colour_at_requires_2 : tie.Need-colour-at-requires-2 invariant_loop decreases_loop invariant_loop2 decreases_loop2
-colour_at_requires_2 c κs = (lent c.before.before (c.before.before.loop.i + 2) (omega arith), (start_of c.before.before).pre.1)
+colour_at_requires_2 : tie.Need-colour_at-third-requires invariant_loop decreases_loop invariant_loop2 decreases_loop2
+colour_at_requires_2 c κs = (lent c.before.before (c.loop-i.i + 2) (omega arith), (start_of c.before.before).requires.1)
 
-add_colour_at_5 : tie.Need-overflow-add-colour-at-5 invariant_loop decreases_loop invariant_loop2 decreases_loop2
+add_colour_at_5 : tie.Need-overflow_add-i-in-loop-i-3 invariant_loop decreases_loop invariant_loop2 decreases_loop2
 add_colour_at_5 c = omega arith
 
-mul_colour_at_3 : tie.Need-overflow-mul-colour-at-3 invariant_loop decreases_loop invariant_loop2 decreases_loop2
-mul_colour_at_3 c = omega (arith, lent c.before.before.before (c.before.before.before.loop.i + 3) (omega arith))
+mul_colour_at_3 : tie.Need-overflow_mul-apart-in-loop-i-2 invariant_loop decreases_loop invariant_loop2 decreases_loop2
+mul_colour_at_3 c = omega (arith, lent c.before.before.before (c.loop-i.i + 3) (omega arith))
 
-add_colour_at_6 : tie.Need-overflow-add-colour-at-6 invariant_loop decreases_loop invariant_loop2 decreases_loop2
-add_colour_at_6 c = omega (arith, lent c.before.before.before (c.before.before.before.loop.i + 3) (omega arith))
+add_colour_at_6 : tie.Need-overflow_add-first-in-loop-i-2 invariant_loop decreases_loop invariant_loop2 decreases_loop2
+add_colour_at_6 c = omega (arith, lent c.before.before.before (c.loop-i.i + 3) (omega arith))
 
-colour_at_requires_3 : tie.Need-colour-at-requires-3 invariant_loop decreases_loop invariant_loop2 decreases_loop2
-colour_at_requires_3 c κs = (lent c.before.before.before (c.before.before.before.loop.i + 3) (omega arith), (start_of c.before.before.before).pre.1)
+colour_at_requires_3 : tie.Need-colour_at-fourth-requires invariant_loop decreases_loop invariant_loop2 decreases_loop2
+colour_at_requires_3 c κs = (lent c.before.before.before (c.loop-i.i + 3) (omega arith), (start_of c.before.before.before).requires.1)
 
-mul_colour_at_4 : tie.Need-overflow-mul-colour-at-4 invariant_loop decreases_loop invariant_loop2 decreases_loop2
-mul_colour_at_4 c = omega (arith, lent c.before.before.before.before.before c.before.before.before.before.before.loop.i (omega arith))
+mul_colour_at_4 : tie.Need-overflow_mul-apart-in-loop-i-3 invariant_loop decreases_loop invariant_loop2 decreases_loop2
+mul_colour_at_4 c = omega (arith, lent c.before.before.before.before.before c.loop-i.i (omega arith))
 
-add_colour_at_7 : tie.Need-overflow-add-colour-at-7 invariant_loop decreases_loop invariant_loop2 decreases_loop2
-add_colour_at_7 c = omega (arith, lent c.before.before.before.before.before c.before.before.before.before.before.loop.i (omega arith))
+add_colour_at_7 : tie.Need-overflow_add-first-in-loop-i-3 invariant_loop decreases_loop invariant_loop2 decreases_loop2
+add_colour_at_7 c = omega (arith, lent c.before.before.before.before.before c.loop-i.i (omega arith))
 
-colour_at_requires_4 : tie.Need-colour-at-requires-4 invariant_loop decreases_loop invariant_loop2 decreases_loop2
-colour_at_requires_4 c κs = (lent c.before.before.before.before.before c.before.before.before.before.before.loop.i (omega arith), (start_of c.before.before.before.before.before).pre.1)
+colour_at_requires_4 : tie.Need-colour_at-requires invariant_loop decreases_loop invariant_loop2 decreases_loop2
+colour_at_requires_4 c κs = (lent c.before.before.before.before.before c.loop-i.i (omega arith), (start_of c.before.before.before.before.before).requires.1)
 
-put_four_requires : tie.Need-put-four-requires invariant_loop decreases_loop invariant_loop2 decreases_loop2
+put_four_requires : tie.Need-put_four-requires invariant_loop decreases_loop invariant_loop2 decreases_loop2
 put_four_requires c κs = search rules
 
-add_i : tie.Need-overflow-add-i invariant_loop decreases_loop invariant_loop2 decreases_loop2
+add_i : tie.Need-overflow_add-i-in-loop-i-4 invariant_loop decreases_loop invariant_loop2 decreases_loop2
 add_i c = omega arith
 
-loop_less : tie.Need-loop-smaller invariant_loop decreases_loop invariant_loop2 decreases_loop2
+loop_less : tie.Need-loop-i-smaller invariant_loop decreases_loop invariant_loop2 decreases_loop2
 loop_less c = omega arith
 
-loop_again : tie.Need-loop-preserved invariant_loop decreases_loop invariant_loop2 decreases_loop2
+loop_again : tie.Need-loop-i-preserved invariant_loop decreases_loop invariant_loop2 decreases_loop2
 loop_again c =
-    let fourth = c.before.before.before in
-    let third = fourth.before.before in
-    let second = third.before in
-    let first = second.before in
-    rw c.before.before.put_four.ensures
-    (fill_four first.before.before.loop.invariant (omega arith)
-    (rw zero-add fourth.colour-at4.ensures)
-    (rw zero-add first.colour-at.ensures)
-    (rw zero-add second.colour-at2.ensures)
-    (rw zero-add third.colour-at3.ensures))
+    rw c.put_four.ensures
+    (fill_four c.loop-i.invariant (omega arith)
+    (rw zero-add c.colour_at.ensures)
+    (rw zero-add c.colour_at-second.ensures)
+    (rw zero-add c.colour_at-third.ensures)
+    (rw zero-add c.colour_at-fourth.ensures))
 
-loop2_holds : tie.Need-loop2-init invariant_loop decreases_loop invariant_loop2 decreases_loop2
+loop2_holds : tie.Need-loop-i-2-init invariant_loop decreases_loop invariant_loop2 decreases_loop2
 loop2_holds c = λ room so_far. so_far
 
-mul_colour_at_5 : tie.Need-overflow-mul-colour-at-5 invariant_loop decreases_loop invariant_loop2 decreases_loop2
-mul_colour_at_5 c = omega (arith, lent c.before.before.before c.before.loop2.i c.loop2-test.true)
+mul_colour_at_5 : tie.Need-overflow_mul-apart-in-loop-i-2-2 invariant_loop decreases_loop invariant_loop2 decreases_loop2
+mul_colour_at_5 c = omega (arith, lent c.before.before.before c.loop-i-2.i c.loop-i-2-test.true)
 
-add_colour_at_8 : tie.Need-overflow-add-colour-at-8 invariant_loop decreases_loop invariant_loop2 decreases_loop2
-add_colour_at_8 c = omega (arith, lent c.before.before.before c.before.loop2.i c.loop2-test.true)
+add_colour_at_8 : tie.Need-overflow_add-first-in-loop-i-2-2 invariant_loop decreases_loop invariant_loop2 decreases_loop2
+add_colour_at_8 c = omega (arith, lent c.before.before.before c.loop-i-2.i c.loop-i-2-test.true)
 
-colour_at_requires_5 : tie.Need-colour-at-requires-5 invariant_loop decreases_loop invariant_loop2 decreases_loop2
-colour_at_requires_5 c κs = (lent c.before.before.before c.before.loop2.i c.loop2-test.true, (start_of c.before.before.before).pre.1)
+colour_at_requires_5 : tie.Need-colour_at-requires-in-loop-i-2 invariant_loop decreases_loop invariant_loop2 decreases_loop2
+colour_at_requires_5 c κs = (lent c.before.before.before c.loop-i-2.i c.loop-i-2-test.true, (start_of c.before.before.before).requires.1)
 
-mul_out : tie.Need-overflow-mul-out invariant_loop decreases_loop invariant_loop2 decreases_loop2
+mul_out : tie.Need-offset_bounds-out-i invariant_loop decreases_loop invariant_loop2 decreases_loop2
 mul_out c = omega (arith, on c.before.before)
 
-slice_write_out : tie.Need-slice-write-out invariant_loop decreases_loop invariant_loop2 decreases_loop2
+slice_write_out : tie.Need-bounds-out-i invariant_loop decreases_loop invariant_loop2 decreases_loop2
 slice_write_out c = omega (arith, on c.before.before)
 
-add_i_2 : tie.Need-overflow-add-i-2 invariant_loop decreases_loop invariant_loop2 decreases_loop2
+add_i_2 : tie.Need-overflow_add-i-in-loop-i-2-2 invariant_loop decreases_loop invariant_loop2 decreases_loop2
 add_i_2 c = omega (arith, on c.before.before)
 
-loop2_less : tie.Need-loop2-smaller invariant_loop decreases_loop invariant_loop2 decreases_loop2
+loop2_less : tie.Need-loop-i-2-smaller invariant_loop decreases_loop invariant_loop2 decreases_loop2
 loop2_less c = omega arith
 
-loop2_again : tie.Need-loop2-preserved invariant_loop decreases_loop invariant_loop2 decreases_loop2
+loop2_again : tie.Need-loop-i-2-preserved invariant_loop decreases_loop invariant_loop2 decreases_loop2
 loop2_again c =
-    λ room so_far. fill_next (c.before.before.loop2.invariant room so_far) c.before.loop2-test.true (rw zero-add c.colour-at5.ensures)
+    λ room so_far. fill_next (c.loop-i-2.invariant room so_far) c.loop-i-2-test.true (rw zero-add c.colour_at-in-loop-i-2.ensures)
 
-same_length : tie.Need-same-length invariant_loop decreases_loop invariant_loop2 decreases_loop2
+same_length : tie.Need-shape_of-out invariant_loop decreases_loop invariant_loop2 decreases_loop2
 same_length c = (on c.before).long
 
 returns : tie.Need-returns invariant_loop decreases_loop invariant_loop2 decreases_loop2
-returns c = fill_over (on c.before) c.loop2-test.false
+returns c = fill_over (on c.before) c.loop-i-2-test.false
 
 pub look_up_spec : {M : Type 1} → statement M
 look_up_spec =

@@ -32,22 +32,21 @@ no_third tag (inr (inr (inr (inl e)))) two = omega arith
 no_third tag (inr (inr (inr (inr e)))) two = omega arith
 
 -- in the second arm the format is that of 8-bit indices
-is_index : (c : tie.At-match-keys2) → c.before.before.args.entry.format ≡ Index8
-is_index c = ⊎_elim (λ is. is) (λ is. absurd (no_third 2 (rw is at c.match.keys2) refl)) c.before.before.requires.3
+is_index : (c : tie.In-Index8) → c.args.entry.format ≡ Index8
+is_index c = ⊎_elim (λ is. is) (λ is. absurd (no_third 2 (rw is at c.in-Index8.in-Index8-own.keys2) refl)) c.requires.3
 
 -- a sample of 8 bits shows the entry that stands as many behind the first of its bank
-shows : (c : tie.After-map-entry) (sample : ℕ) → sample < 256 → shown_of c.before.before.before.args.entry sample ≡ MapEntry (c.map-entry.result + sample)
+shows : (c : tie.After-map_entry) (sample : ℕ) → sample < 256 → shown_of c.args.entry sample ≡ MapEntry (c.map_entry.result + sample)
 shows c sample below =
-    let entry = c.before.before.before.args.entry in
+    let entry = c.args.entry in
     let all : bits sample 0 8 ≡ sample = rw div-one (mod-eq_of_lt below) in
-    shown_index8 entry sample (is_index c.before) c.map-entry.ensures
-    ∙ ap (λ (n : ℕ). MapEntry (c.map-entry.result + n)) (rw (is_index c.before) all)
+    shown_index8 entry sample (is_index c.before) c.map_entry.ensures
+    ∙ ap (λ (n : ℕ). MapEntry (c.map_entry.result + n)) (rw (is_index c.before) all)
 
 -- the bank lies in the map
-in_map : (c : tie.After-map-entry) → c.map-entry.result + 256 ≤ 4608
+in_map : (c : tie.After-map_entry) → c.map_entry.result + 256 ≤ 4608
 in_map c =
-    let start = c.before.before.before in
-    omega (arith, map_entry_below start.args.depth start.args.entry 255 (said_says start.args.depth start.args.entry start.requires.0) (shows c 255 (lit< tt)))
+    omega (arith, map_entry_below c.args.depth c.args.entry 255 (said_says c.args.depth c.args.entry c.requires.0) (shows c 255 (lit< tt)))
 
 -- in RGB 3-3-2 a sample shows a colour of its own
 shown_332 : (entry : WindowEntry) (sample : ℕ) → entry.format ≡ Rgb332 → shown_of entry sample ≡ Colour (colour_in_format Rgb332 sample)
@@ -57,36 +56,33 @@ shown_332 entry sample is = shown_rgb entry sample (inl is) ∙ ap (λ (format :
 of_shown : (memory : PixelCell → ℕ) {word : ℕ} {shown shown' : Shown} → word ≡ value memory (shown_colour shown) → shown' ≡ shown → word ≡ value memory (shown_colour shown')
 of_shown memory is same = is ∙ ap (λ (s : Shown). value memory (shown_colour s)) (sym same)
 
-enum_told : tie.Need-enum-told
+enum_told : tie.Need-enum_told-1
 enum_told c = search rules
 
-colours_332_requires : tie.Need-colours-332-requires
+colours_332_requires : tie.Need-colours_332-requires
 colours_332_requires c κs = search rules
 
-map_entry_requires : tie.Need-map-entry-requires
+map_entry_requires : tie.Need-map_entry-requires
 map_entry_requires c κs = search rules
 
-map_colours_requires : tie.Need-map-colours-requires
+map_colours_requires : tie.Need-map_colours-requires
 map_colours_requires c κs =
-    let start = c.before.before.before.before in
-    (start.requires.1, in_map c.before, start.requires.2)
+    (c.requires.1, in_map c.before, c.requires.2)
 
-returns : tie.Need-returns
+returns : tie.Need-returns-in-Rgb332
 returns c =
-    let told = c.before.before in
-    let a = told.before.before.before.args in (
-      c.colours-332.ensures.0,
+    let a = c.args in (
+      c.colours_332.ensures.0,
       λ sample below normal overlay.
-          of_shown (pixel_view a.store.now normal overlay) (c.colours-332.ensures.1 sample below) (shown_332 a.entry sample told.enum_told.given.1),
+          of_shown (pixel_view a.store.now normal overlay) (c.colours_332.ensures.1 sample below) (shown_332 a.entry sample c.in-Rgb332.is),
     )
 
-returns_2 : tie.Need-returns-2
+returns_2 : tie.Need-returns-in-Index8
 returns_2 c =
-    let entry = c.before.before in
-    let a = entry.before.before.before.args in (
-      c.map-colours.ensures.0,
+    let a = c.args in (
+      c.map_colours.ensures.0,
       λ sample below normal overlay.
-          of_shown (pixel_view a.store.now normal overlay) (c.map-colours.ensures.1 sample below normal overlay) (shows entry sample below),
+          of_shown (pixel_view a.store.now normal overlay) (c.map_colours.ensures.1 sample below normal overlay) (shows c.before.before sample below),
     )
 
 pub normal_colours_spec : {M : Type 1} → statement M

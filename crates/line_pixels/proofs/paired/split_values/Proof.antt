@@ -9,72 +9,72 @@ use Rattle.line_pixels.proofs.paired.split_values.Statement.{statement}
 use Rattle.line_pixels.proofs.paired.split_values.Tie as tie
 
 -- each table has its channel of the gamma words that the values before v pick
-abbrev invariant_loop : tie.invariant-loop
+abbrev invariant_loop : tie.invariant-loop-v
 invariant_loop store values quarters reds₀ greens₀ blues₀ v₀ reds greens blues v =
     Filling (λ k. gamma_red store (quarters * k / 4)) 0 values reds₀ reds v × Filling (λ k. gamma_green store (quarters * k / 4)) 0 values greens₀ greens v × Filling (λ k. gamma_blue store (quarters * k / 4)) 0 values blues₀ blues v
 
 -- the values that are left
-abbrev decreases_loop : tie.decreases-loop
+abbrev decreases_loop : tie.decreases-loop-v
 decreases_loop store values quarters reds₀ greens₀ blues₀ v₀ reds greens blues v = values - v
 
-loop_holds : tie.Need-loop-init invariant_loop decreases_loop
+loop_holds : tie.Need-loop-v-init invariant_loop decreases_loop
 loop_holds c = (fill_start (omega (arith, c.requires)), fill_start (omega (arith, c.requires)), fill_start c.requires.5)
 
-mul_word : tie.Need-overflow-mul-word invariant_loop decreases_loop
-mul_word c = omega (arith, c.before.before.requires.2 c.before.loop.v c.loop-test.true)
+mul_word : tie.Need-overflow_mul-word invariant_loop decreases_loop
+mul_word c = omega (arith, c.requires.2 c.loop-v.v c.loop-v-test.true)
 
-add_word : tie.Need-overflow-add-word invariant_loop decreases_loop
-add_word c = omega (arith, c.before.before.requires.2 c.before.loop.v c.loop-test.true)
+add_word : tie.Need-overflow_add-word invariant_loop decreases_loop
+add_word c = omega (arith, c.requires.2 c.loop-v.v c.loop-v-test.true)
 
-mul_word_2 : tie.Need-overflow-mul-word-2 invariant_loop decreases_loop
-mul_word_2 c = omega (arith, c.before.before.requires.2 c.before.loop.v c.loop-test.true)
+mul_word_2 : tie.Need-offset_bounds-store-quarters invariant_loop decreases_loop
+mul_word_2 c = omega (arith, c.requires.2 c.loop-v.v c.loop-v-test.true)
 
-shared_slice_read_word : tie.Need-shared-slice-read-word invariant_loop decreases_loop
-shared_slice_read_word c = omega (arith, c.before.before.before.requires.2 c.before.before.loop.v c.before.loop-test.true)
+shared_slice_read_word : tie.Need-bounds-store-quarters invariant_loop decreases_loop
+shared_slice_read_word c = omega (arith, c.requires.2 c.loop-v.v c.loop-v-test.true)
 
-mul_reds : tie.Need-overflow-mul-reds invariant_loop decreases_loop
+mul_reds : tie.Need-overflow_mul-reds invariant_loop decreases_loop
 mul_reds c = search rules
 
-mul_reds_2 : tie.Need-overflow-mul-reds-2 invariant_loop decreases_loop
+mul_reds_2 : tie.Need-offset_bounds-reds-v invariant_loop decreases_loop
 mul_reds_2 c = search rules
 
-element_write_reds : tie.Need-element-write-reds invariant_loop decreases_loop
-element_write_reds c = omega (arith, c.before.before.loop.invariant.0)
+element_write_reds : tie.Need-bounds-reds-v invariant_loop decreases_loop
+element_write_reds c = omega (arith, c.loop-v.invariant.0)
 
-mul_greens : tie.Need-overflow-mul-greens invariant_loop decreases_loop
+mul_greens : tie.Need-overflow_mul-greens invariant_loop decreases_loop
 mul_greens c = search rules
 
-mul_greens_2 : tie.Need-overflow-mul-greens-2 invariant_loop decreases_loop
+mul_greens_2 : tie.Need-offset_bounds-greens-v invariant_loop decreases_loop
 mul_greens_2 c = search rules
 
-element_write_greens : tie.Need-element-write-greens invariant_loop decreases_loop
-element_write_greens c = omega (arith, c.before.before.loop.invariant.1)
+element_write_greens : tie.Need-bounds-greens-v invariant_loop decreases_loop
+element_write_greens c = omega (arith, c.loop-v.invariant.1)
 
-mul_blues : tie.Need-overflow-mul-blues invariant_loop decreases_loop
+mul_blues : tie.Need-offset_bounds-blues-v invariant_loop decreases_loop
 mul_blues c = search rules
 
-slice_write_blues : tie.Need-slice-write-blues invariant_loop decreases_loop
-slice_write_blues c = omega (arith, c.before.before.loop.invariant.2)
+slice_write_blues : tie.Need-bounds-blues-v invariant_loop decreases_loop
+slice_write_blues c = omega (arith, c.loop-v.invariant.2)
 
-add_v : tie.Need-overflow-add-v invariant_loop decreases_loop
+add_v : tie.Need-overflow_add-v invariant_loop decreases_loop
 add_v c = search rules
 
-loop_less : tie.Need-loop-smaller invariant_loop decreases_loop
+loop_less : tie.Need-loop-v-smaller invariant_loop decreases_loop
 loop_less c = omega arith
 
-loop_again : tie.Need-loop-preserved invariant_loop decreases_loop
+loop_again : tie.Need-loop-v-preserved invariant_loop decreases_loop
 loop_again c =
-    let inv = c.before.before.loop.invariant in
-    let more = c.before.loop-test.true in
+    let inv = c.loop-v.invariant in
+    let more = c.loop-v-test.true in
     (fill_next inv.0 more (rw zero-add), fill_next inv.1 more (rw zero-add), fill_next inv.2 more (rw zero-add))
 
-same_length : tie.Need-same-length invariant_loop decreases_loop
-same_length c = c.before.loop.invariant.2.long
+same_length : tie.Need-shape_of-blues invariant_loop decreases_loop
+same_length c = c.loop-v.invariant.2.long
 
 returns : tie.Need-returns invariant_loop decreases_loop
 returns c =
-    let inv = c.before.loop.invariant in
-    let all = c.loop-test.false in
+    let inv = c.loop-v.invariant in
+    let all = c.loop-v-test.false in
     (fill_over inv.0 all, fill_over inv.1 all, fill_over inv.2 all)
 
 pub split_values_spec : {M : Type 1} → statement M

@@ -40,51 +40,50 @@ module _ (a b c d : ℕ) (b_below : b < 256) (c_below : c < 256) (d_below : d < 
   of_loaded is a_below = rw colour_of (omega arith)
 
 -- the pixels before i are filled
-abbrev invariant_loop : tie.invariant-loop
+abbrev invariant_loop : tie.invariant-loop-i
 invariant_loop normal first count out₀ i₀ out i = FillingRgb Rgb888 normal 4 first 4 count out₀ out i
 
 -- the pixels that are left
-abbrev decreases_loop : tie.decreases-loop
+abbrev decreases_loop : tie.decreases-loop-i
 decreases_loop normal first count out₀ i₀ out i = count - i
 
-loop_holds : tie.Need-loop-init invariant_loop decreases_loop
-loop_holds c = fill_start c.before.before.requires.1
+loop_holds : tie.Need-loop-i-init invariant_loop decreases_loop
+loop_holds c = fill_start c.requires.1
 
-mul_le32 : tie.Need-overflow-mul-le32 invariant_loop decreases_loop
-mul_le32 c = omega (arith, c.before.before.before.before.requires.0 c.before.loop.i c.loop-test.true)
+mul_le32 : tie.Need-overflow_mul-i invariant_loop decreases_loop
+mul_le32 c = omega (arith, c.requires.0 c.loop-i.i c.loop-i-test.true)
 
-add_le32 : tie.Need-overflow-add-le32 invariant_loop decreases_loop
-add_le32 c = omega (arith, c.before.before.before.before.requires.0 c.before.loop.i c.loop-test.true)
+add_le32 : tie.Need-overflow_add-first invariant_loop decreases_loop
+add_le32 c = omega (arith, c.requires.0 c.loop-i.i c.loop-i-test.true)
 
 le32_requires : tie.Need-le32-requires invariant_loop decreases_loop
-le32_requires c κs = c.before.before.before.before.requires.0 c.before.loop.i c.loop-test.true
+le32_requires c κs = c.requires.0 c.loop-i.i c.loop-i-test.true
 
-mul_out : tie.Need-overflow-mul-out invariant_loop decreases_loop
-mul_out c = omega (arith, c.before.before.loop.invariant)
+mul_out : tie.Need-offset_bounds-out-i invariant_loop decreases_loop
+mul_out c = omega (arith, c.loop-i.invariant)
 
-slice_write_out : tie.Need-slice-write-out invariant_loop decreases_loop
-slice_write_out c = omega (arith, c.before.before.loop.invariant)
+slice_write_out : tie.Need-bounds-out-i invariant_loop decreases_loop
+slice_write_out c = omega (arith, c.loop-i.invariant)
 
-add_i : tie.Need-overflow-add-i invariant_loop decreases_loop
-add_i c = omega (arith, c.before.before.loop.invariant)
+add_i : tie.Need-overflow_add-i invariant_loop decreases_loop
+add_i c = omega (arith, c.loop-i.invariant)
 
-loop_less : tie.Need-loop-smaller invariant_loop decreases_loop
+loop_less : tie.Need-loop-i-smaller invariant_loop decreases_loop
 loop_less c = omega arith
 
-loop_again : tie.Need-loop-preserved invariant_loop decreases_loop
+loop_again : tie.Need-loop-i-preserved invariant_loop decreases_loop
 loop_again c =
-    let at_loop = c.before.before in
-    let a = at_loop.before.before.before.args in
-    let place = a.first + 4 * at_loop.loop.i in
+    let a = c.args in
+    let place = a.first + 4 * c.loop-i.i in
     let loaded = c.le32.ensures in
-    rgb_next Rgb888 a.normal.now 4 a.first 4 at_loop.loop.invariant c.before.loop-test.true
+    rgb_next Rgb888 a.normal.now 4 a.first 4 c.loop-i.invariant c.loop-i-test.true
     (rw (big_endian_4 a.normal.now place) (of_loaded _ _ _ _ loaded.2 loaded.3 loaded.4 loaded.0 loaded.1))
 
-same_length : tie.Need-same-length invariant_loop decreases_loop
-same_length c = c.before.loop.invariant.long
+same_length : tie.Need-shape_of-out invariant_loop decreases_loop
+same_length c = c.loop-i.invariant.long
 
 returns : tie.Need-returns invariant_loop decreases_loop
-returns c = fill_over c.before.loop.invariant c.loop-test.false
+returns c = fill_over c.loop-i.invariant c.loop-i-test.false
 
 pub run_888_spec : {M : Type 1} → statement M
 run_888_spec =

@@ -12,19 +12,19 @@ use Rattle.line_pixels.proofs.rgb.word_444.Tie as tie
 together : (r g b : ℕ) → 17 * r * 2 ^ 16 + 17 * g * 2 ^ 8 + 17 * b ≡ 17 * (r * 65536 + g * 256 + b)
 together r g b = omega arith
 
-mul_result : tie.Need-overflow-mul-result
+mul_result : tie.Need-overflow_mul-result
 mul_result c = search rules
 
-mul_result_2 : tie.Need-overflow-mul-result-2
+mul_result_2 : tie.Need-overflow_mul-result-2
 mul_result_2 c = search rules
 
-add_result : tie.Need-overflow-add-result
+add_result : tie.Need-overflow_add-result
 add_result c = search rules
 
-add_result_2 : tie.Need-overflow-add-result-2
+add_result_2 : tie.Need-overflow_add-result-2
 add_result_2 c = search rules
 
-mul_result_3 : tie.Need-overflow-mul-result-3
+mul_result_3 : tie.Need-overflow_mul-result-3
 mul_result_3 c = search rules
 
 returns : tie.Need-returns

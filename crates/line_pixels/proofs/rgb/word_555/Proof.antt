@@ -41,21 +41,20 @@ module _ (red green blue : ℕ) (red_below : red < 32) (green_below : green < 32
       ≡ (8 * red + red / 4) * 65536 + (8 * green + green / 4) * 256 + (8 * blue + blue / 4)
   at_once = rw (top_of_red, top_of_green, top_of_blue) (omega arith)
 
-spread_555_requires : tie.Need-spread-555-requires
+spread_555_requires : tie.Need-spread_555-requires
 spread_555_requires c κs = search rules
 
-widened_5_requires : tie.Need-widened-5-requires
+widened_5_requires : tie.Need-widened_5-requires
 widened_5_requires c κs = search rules
 
 returns : tie.Need-returns
 returns c =
-    let start = c.before.before in
-    let half = start.args.half in
+    let half = c.args.half in
     let low = half % 256 in
     let high = half / 256 in
-    let below : high < 256 = omega (arith, start.requires) in
-    rw (c.widened-5.ensures, c.before.spread-555.ensures)
-    (at_once (half / 256 % 32) (half % 4 * 8 + half / 8192) (half / 4 % 32) (omega arith) (omega (arith, start.requires)) (omega arith)
+    let below : high < 256 = omega (arith, c.requires) in
+    rw (c.widened_5.ensures, c.spread_555.ensures)
+    (at_once (half / 256 % 32) (half % 4 * 8 + half / 8192) (half / 4 % 32) (omega arith) (omega (arith, c.requires)) (omega arith)
     ∙ sym
     (word_by 5 (λ (v : ℕ). 8 * v + v / 4) widened_5 (low * 256 + high)
     ∙ rw (red_555 low high below, green_555 low high below, blue_555 low high below, low_loaded half, high_loaded half, between_loaded half)))

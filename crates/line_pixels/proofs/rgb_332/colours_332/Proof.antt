@@ -87,25 +87,21 @@ red_fits reds are k below = rw (are k below, colour_of_red k below) (omega arith
 other_fits : (others : List ℕ) → ((k : ℕ) → k < 32 → get_or others k 0 ≡ colour (8 * k)) → (k : ℕ) → k < 32 → get_or others k 0 < 65536
 other_fits others are k below = rw (are k below, colour_of_other k) (omega arith)
 
-colours_apart_requires : tie.Need-colours-apart-requires
+colours_apart_requires : tie.Need-colours_apart-requires
 colours_apart_requires c κs = search rules
 
-colours_apart_requires_2 : tie.Need-colours-apart-requires-2
+colours_apart_requires_2 : tie.Need-colours_apart-requires-2
 colours_apart_requires_2 c κs = search rules
 
-sum_rows_requires : tie.Need-sum-rows-requires
+sum_rows_requires : tie.Need-sum_rows-requires
 sum_rows_requires c κs =
-    let reds = c.before.before.before.before.before in
-    let others = c.before.before.before in
-    (red_fits reds.colours-apart.new.1.1.0 reds.colours-apart.ensures, other_fits others.colours-apart2.new.1.1.0 others.colours-apart2.ensures, search rules, search rules, omega (arith, reds.before.before.requires))
+    (red_fits c.colours_apart.new.colours c.colours_apart.ensures, other_fits c.colours_apart-2.new.colours c.colours_apart-2.ensures, search rules, search rules, omega (arith, c.requires))
 
 returns : tie.Need-returns
 returns c =
-    let reds = c.before.before.before.before.before.before in
-    let others = c.before.before.before.before in
-    let colours = reds.before.before.args.colours.now in (
-      ap length c.sum_rows.ensures ∙ (filled_length (λ k. get_or reds.colours-apart.new.1.1.0 (k % 8) 0 + get_or others.colours-apart2.new.1.1.0 (k / 8) 0) 0 colours 256 (omega (arith, reds.before.before.requires)) ∙ reds.before.before.requires),
-      sums_are reds.colours-apart.new.1.1.0 others.colours-apart2.new.1.1.0 reds.colours-apart.ensures others.colours-apart2.ensures colours c.sum_rows.ensures,
+    let colours = c.args.colours.now in (
+      ap length c.sum_rows.ensures ∙ (filled_length (λ k. get_or c.colours_apart.new.colours (k % 8) 0 + get_or c.colours_apart-2.new.colours (k / 8) 0) 0 colours 256 (omega (arith, c.requires)) ∙ c.requires),
+      sums_are c.colours_apart.new.colours c.colours_apart-2.new.colours c.colours_apart.ensures c.colours_apart-2.ensures colours c.sum_rows.ensures,
     )
 
 pub colours_332_spec : {M : Type 1} → statement M

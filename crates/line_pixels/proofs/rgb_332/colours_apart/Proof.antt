@@ -12,25 +12,25 @@ use Rattle.line_pixels.proofs.rgb_332.colours_apart.Statement.{statement}
 use Rattle.line_pixels.proofs.rgb_332.colours_apart.Tie as tie
 
 -- the colours of the samples before this one are made
-abbrev invariant_loop : tie.invariant-loop
+abbrev invariant_loop : tie.invariant-loop-k
 invariant_loop apart count colours₀ k₀ colours k = Filling (λ i. word_of (colour_in_format Rgb332 (apart * i))) 0 count colours₀ colours k
 
 -- the samples that are left
-abbrev decreases_loop : tie.decreases-loop
+abbrev decreases_loop : tie.decreases-loop-k
 decreases_loop apart count colours₀ k₀ colours k = count - k
 
 -- a sample stays small
-small : (c : tie.In-loop invariant_loop decreases_loop) → let loop = c.before in loop.before.args.apart * loop.loop.k ≤ 8 * loop.loop.k
-small c = mul-le-mul_right c.before.loop.k c.before.before.requires.0
+small : (c : tie.In-loop-k invariant_loop decreases_loop) → c.args.apart * c.loop-k.k ≤ 8 * c.loop-k.k
+small c = mul-le-mul_right c.loop-k.k c.requires.0
 
-loop_holds : tie.Need-loop-init invariant_loop decreases_loop
+loop_holds : tie.Need-loop-k-init invariant_loop decreases_loop
 loop_holds c = fill_start (omega (arith, c.requires.1, c.requires.2))
 
-mul_colour : tie.Need-overflow-mul-colour invariant_loop decreases_loop
-mul_colour c = omega (arith, small c, c.before.before.requires.1)
+mul_colour : tie.Need-overflow_mul-apart invariant_loop decreases_loop
+mul_colour c = omega (arith, small c, c.requires.1)
 
-cast_colour : tie.Need-overflow-cast-colour invariant_loop decreases_loop
-cast_colour c = omega (arith, small c, c.before.before.requires.1)
+cast_colour : tie.Need-overflow_cast-apart invariant_loop decreases_loop
+cast_colour c = omega (arith, small c, c.requires.1)
 
 colour_requires : tie.Need-colour-requires invariant_loop decreases_loop
 colour_requires c κs = search rules
@@ -38,25 +38,24 @@ colour_requires c κs = search rules
 word_requires : tie.Need-word-requires invariant_loop decreases_loop
 word_requires c κs = search rules
 
-mul_colours : tie.Need-overflow-mul-colours invariant_loop decreases_loop
+mul_colours : tie.Need-offset_bounds-colours-k invariant_loop decreases_loop
 mul_colours c = search rules
 
-element_write_colours : tie.Need-element-write-colours invariant_loop decreases_loop
-element_write_colours c = omega (arith, c.before.before.before.loop.invariant, c.before.before.before.before.requires)
+element_write_colours : tie.Need-bounds-colours-k invariant_loop decreases_loop
+element_write_colours c = omega (arith, c.loop-k.invariant, c.requires)
 
-add_k : tie.Need-overflow-add-k invariant_loop decreases_loop
+add_k : tie.Need-overflow_add-k invariant_loop decreases_loop
 add_k c = search rules
 
-loop_less : tie.Need-loop-smaller invariant_loop decreases_loop
+loop_less : tie.Need-loop-k-smaller invariant_loop decreases_loop
 loop_less c = omega arith
 
-loop_again : tie.Need-loop-preserved invariant_loop decreases_loop
+loop_again : tie.Need-loop-k-preserved invariant_loop decreases_loop
 loop_again c =
-    let at_loop = c.before.before.before in
-    fill_next at_loop.loop.invariant c.before.before.loop-test.true (rw (zero-add at_loop.loop.k) (c.word.ensures.0 ∙ ap word_of c.before.colour.ensures))
+    fill_next c.loop-k.invariant c.loop-k-test.true (rw (zero-add c.loop-k.k) (c.word.ensures.0 ∙ ap word_of c.colour.ensures))
 
 returns : tie.Need-returns invariant_loop decreases_loop
-returns c = λ k below. looked_up _ c.before.before.args.colours.now c.before.before.args.count k 0 (fill_over c.before.loop.invariant c.loop-test.false) below
+returns c = λ k below. looked_up _ c.args.colours.now c.args.count k 0 (fill_over c.loop-k.invariant c.loop-k-test.false) below
 
 pub colours_apart_spec : {M : Type 1} → statement M
 colours_apart_spec =

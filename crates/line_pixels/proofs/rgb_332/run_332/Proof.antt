@@ -20,24 +20,24 @@ one_byte : (bytes : List ℕ) (at : ℕ) → get_or bytes at 0 ≡ big_endian by
 one_byte bytes at = rw add-zero (omega arith)
 
 -- the pixels before i are filled
-abbrev invariant_loop : tie.invariant-loop
+abbrev invariant_loop : tie.invariant-loop-i
 invariant_loop apart normal first count out₀ i₀ out i = FillingRgb Rgb332 normal 1 first apart count out₀ out i
 
 -- the pixels that are left
-abbrev decreases_loop : tie.decreases-loop
+abbrev decreases_loop : tie.decreases-loop-i
 decreases_loop apart normal first count out₀ i₀ out i = count - i
 
-loop_holds : tie.Need-loop-init invariant_loop decreases_loop
-loop_holds c = fill_start c.before.before.requires.1
+loop_holds : tie.Need-loop-i-init invariant_loop decreases_loop
+loop_holds c = fill_start c.requires.1
 
-mul_wide : tie.Need-overflow-mul-wide invariant_loop decreases_loop
-mul_wide c = omega (arith, c.before.before.before.before.requires.0 c.before.loop.i c.loop-test.true)
+mul_wide : tie.Need-overflow_mul-apart invariant_loop decreases_loop
+mul_wide c = omega (arith, c.requires.0 c.loop-i.i c.loop-i-test.true)
 
-add_wide : tie.Need-overflow-add-wide invariant_loop decreases_loop
-add_wide c = omega (arith, c.before.before.before.before.requires.0 c.before.loop.i c.loop-test.true)
+add_wide : tie.Need-overflow_add-first invariant_loop decreases_loop
+add_wide c = omega (arith, c.requires.0 c.loop-i.i c.loop-i-test.true)
 
-shared_slice_read_wide : tie.Need-shared-slice-read-wide invariant_loop decreases_loop
-shared_slice_read_wide c = omega (arith, c.before.before.before.before.before.requires.0 c.before.before.loop.i c.before.loop-test.true)
+shared_slice_read_wide : tie.Need-bounds-normal-first invariant_loop decreases_loop
+shared_slice_read_wide c = omega (arith, c.requires.0 c.loop-i.i c.loop-i-test.true)
 
 wide_requires : tie.Need-wide-requires invariant_loop decreases_loop
 wide_requires c κs = search rules
@@ -48,33 +48,32 @@ colour_requires c κs = search rules
 word_requires : tie.Need-word-requires invariant_loop decreases_loop
 word_requires c κs = search rules
 
-mul_out : tie.Need-overflow-mul-out invariant_loop decreases_loop
-mul_out c = omega (arith, c.before.before.before.before.before.loop.invariant)
+mul_out : tie.Need-offset_bounds-out-i invariant_loop decreases_loop
+mul_out c = omega (arith, c.loop-i.invariant)
 
-slice_write_out : tie.Need-slice-write-out invariant_loop decreases_loop
-slice_write_out c = omega (arith, c.before.before.before.before.before.loop.invariant)
+slice_write_out : tie.Need-bounds-out-i invariant_loop decreases_loop
+slice_write_out c = omega (arith, c.loop-i.invariant)
 
-add_i : tie.Need-overflow-add-i invariant_loop decreases_loop
-add_i c = omega (arith, c.before.before.before.before.before.loop.invariant)
+add_i : tie.Need-overflow_add-i invariant_loop decreases_loop
+add_i c = omega (arith, c.loop-i.invariant)
 
-loop_less : tie.Need-loop-smaller invariant_loop decreases_loop
+loop_less : tie.Need-loop-i-smaller invariant_loop decreases_loop
 loop_less c = omega arith
 
-loop_again : tie.Need-loop-preserved invariant_loop decreases_loop
+loop_again : tie.Need-loop-i-preserved invariant_loop decreases_loop
 loop_again c =
-    let at_loop = c.before.before.before.before.before in
-    let a = at_loop.before.before.before.args in
-    let place = a.first + a.apart * at_loop.loop.i in
-    rgb_next Rgb332 a.normal.now 1 a.first a.apart at_loop.loop.invariant c.before.before.before.before.loop-test.true
+    let a = c.args in
+    let place = a.first + a.apart * c.loop-i.i in
+    rgb_next Rgb332 a.normal.now 1 a.first a.apart c.loop-i.invariant c.loop-i-test.true
     (c.word.ensures.0
-    ∙ ap word_of c.before.colour.ensures
-    ∙ ap (λ (sample : ℕ). word_of (colour_in_format Rgb332 sample)) (c.before.before.wide.ensures.0 ∙ one_byte a.normal.now place))
+    ∙ ap word_of c.colour.ensures
+    ∙ ap (λ (sample : ℕ). word_of (colour_in_format Rgb332 sample)) (c.wide.ensures.0 ∙ one_byte a.normal.now place))
 
-same_length : tie.Need-same-length invariant_loop decreases_loop
-same_length c = c.before.loop.invariant.long
+same_length : tie.Need-shape_of-out invariant_loop decreases_loop
+same_length c = c.loop-i.invariant.long
 
 returns : tie.Need-returns invariant_loop decreases_loop
-returns c = fill_over c.before.loop.invariant c.loop-test.false
+returns c = fill_over c.loop-i.invariant c.loop-i-test.false
 
 pub run_332_spec : {M : Type 1} → statement M
 run_332_spec =

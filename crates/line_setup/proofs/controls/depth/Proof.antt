@@ -8,13 +8,13 @@ use Rattle.line_setup.proofs.controls.depth.Tie as tie
 switch_requires : tie.Need-switch-requires
 switch_requires c κs = search rules
 
-returns : tie.Need-returns
+returns : tie.Need-returns-then-switch
 unfolding depth_of
-returns c = simp (← c.before.switch.ensures, c.if1.true) refl
+returns c = simp (← c.switch.ensures, c.if-switch.true) refl
 
-returns_2 : tie.Need-returns-2
+returns_2 : tie.Need-returns-else-switch
 unfolding depth_of
-returns_2 c = simp (← c.before.switch.ensures, c.if1.false) refl
+returns_2 c = simp (← c.switch.ensures, c.if-switch.false) refl
 
 pub depth_spec : {M : Type 1} → statement M
 depth_spec = tie.close (tie.spec switch_requires returns returns_2)

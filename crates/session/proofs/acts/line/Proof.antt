@@ -18,34 +18,34 @@ use Rattle.session.proofs.Asked.{asked_by, handed_back}
 use Rattle.session.proofs.acts.line.Statement.{statement}
 use Rattle.session.proofs.acts.line.Tie as tie
 
-sub_draw : tie.Need-overflow-sub-draw
+sub_draw : tie.Need-slice_bounds-draw-count
 sub_draw c = search rules
 
-part_draw_start : tie.Need-slice-bounds-draw-start
+part_draw_start : tie.Need-slice_bounds-draw-start
 part_draw_start c = search rules
 
-part_draw_end : tie.Need-slice-bounds-draw-end
+part_draw_end : tie.Need-slice_bounds-draw-end
 part_draw_end c = search rules
 
-sub_draw_2 : tie.Need-overflow-sub-draw-2
+sub_draw_2 : tie.Need-slice_bounds-draw-count-2
 sub_draw_2 c = search rules
 
-part_draw_start_2 : tie.Need-slice-bounds-draw-start-2
+part_draw_start_2 : tie.Need-slice_bounds-draw-start-2
 part_draw_start_2 c = search rules
 
-part_draw_end_2 : tie.Need-slice-bounds-draw-end-2
+part_draw_end_2 : tie.Need-slice_bounds-draw-end-2
 part_draw_end_2 c = search rules
 
-sub_draw_3 : tie.Need-overflow-sub-draw-3
+sub_draw_3 : tie.Need-slice_bounds-draw-count-3
 sub_draw_3 c = search rules
 
-part_draw_start_3 : tie.Need-slice-bounds-draw-start-3
+part_draw_start_3 : tie.Need-slice_bounds-draw-start-3
 part_draw_start_3 c = search rules
 
-part_draw_end_3 : tie.Need-slice-bounds-draw-end-3
+part_draw_end_3 : tie.Need-slice_bounds-draw-end-3
 part_draw_end_3 c = search rules
 
-draw_requires : tie.Need-draw-requires
+draw_requires : tie.Need-draw-drawn-requires
 draw_requires c κs = search rules
 
 unchanged_requires : tie.Need-unchanged-requires
@@ -54,27 +54,26 @@ unchanged_requires c κs = search rules
 width_requires : tie.Need-width-requires
 width_requires c κs = search rules
 
-entry_of_requires : tie.Need-entry-of-requires
+entry_of_requires : tie.Need-entry_of-requires
 entry_of_requires c κs = search rules
 
 listed_requires : tie.Need-listed-requires
 listed_requires c κs = search rules
 
-same_length : tie.Need-same-length
+same_length : tie.Need-shape_of-output
 same_length c = search rules
 
 returns : tie.Need-returns
 returns c =
-    let call = c.before.before.before.before.before.before in
-    let given = call.before.before.before.before.before.before.before.before.before.before.args in
+    let given = c.args in
     let lent = lent_of given.store.now (take given.counts.table given.table.now) (take given.counts.normal given.normal.now) (take given.counts.overlay given.overlay.now) in
     let after = drawn (request_of given.state given.y) lent given.output.now in
-    asked_by given.state given.counts given.records (says_line given.y (controls_of given.state.control).width) (unchanged given.state) call.draw.new.1.1.1.1.1.0 (answer_outcome call.draw.result.answer) after
-    (c.listed.ensures ∙ ap (λ (change : Change). listed_as change given.counts given.records c.before.entry-of.result) c.before.before.before.unchanged.ensures) (
-      handed_back (request_of given.state given.y) lent given.output.now (rw (sub-zero given.counts.table, sub-zero given.counts.normal, sub-zero given.counts.overlay) at call.draw.ensures),
+    asked_by given.state given.counts given.records (says_line given.y (controls_of given.state.control).width) (unchanged given.state) c.draw-drawn.new.out (answer_outcome c.draw-drawn.result.answer) after
+    (c.listed.ensures ∙ ap (λ (change : Change). listed_as change given.counts given.records c.entry_of.result) c.unchanged.ensures) (
+      handed_back (request_of given.state given.y) lent given.output.now (rw (sub-zero given.counts.table, sub-zero given.counts.normal, sub-zero given.counts.overlay) at c.draw-drawn.ensures),
       tt,
     )
-    (c.before.entry-of.ensures ∙ ap (λ (width : ℕ). entry_of (says_line given.y width) (answer_outcome call.draw.result.answer)) c.before.before.width.ensures)
+    (c.entry_of.ensures ∙ ap (λ (width : ℕ). entry_of (says_line given.y width) (answer_outcome c.draw-drawn.result.answer)) c.width.ensures)
 
 pub line_spec : {M : Type 1} → statement M
 line_spec =

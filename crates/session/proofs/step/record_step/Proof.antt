@@ -17,76 +17,72 @@ use Rattle.session.proofs.step.record_step.Statement.{statement}
 use Rattle.session.proofs.step.record_step.Tie as tie
 
 -- the bytes of a record that was found end within the lent ones
-inside_at : (c : tie.After-known-told2) →
-    let given = c.before.before.before.before.before.before.before.before.before.before.before.before.before.args in
-    given.place + 3 + c.before.found.given.0.1.0 ≤ length given.bytes.now
+inside_at : (c : tie.In-Is) →
+    let given = c.args in
+    given.place + 3 + c.in-Is.length ≤ length given.bytes.now
 inside_at c =
-    let given = c.before.before.before.before.before.before.before.before.before.before.before.before.before.args in
+    let given = c.args in
     let session = session_with given.state given.counts given.records in
     let rooms = rooms_of given.store.now given.table.now given.normal.now given.overlay.now given.output.now in
-    let is = sym c.before.before.before.read.ensures ∙ c.before.found.given.1 in
+    let is = sym c.read-found.ensures ∙ c.in-Is.is in
     let accepted = found_accepted (judged_by session rooms given.last) (drop given.place given.bytes.now) is in
-    ends_within given.bytes.now given.place c.before.found.given.0.1.0 accepted.there
+    ends_within given.bytes.now given.place c.in-Is.length accepted.there
 
-step_check_requires : tie.Need-step-check-requires
+step_check_requires : tie.Need-step_check-allowed-requires
 step_check_requires c κs = search rules
 
-enum_known_allowed : tie.Need-enum-known-allowed
+enum_known_allowed : tie.Need-enum_known-allowed
 enum_known_allowed c = search rules
 
 unchanged_requires : tie.Need-unchanged-requires
 unchanged_requires c κs = search rules
 
-returns : tie.Need-returns
+returns : tie.Need-returns-in-Refused
 returns c =
-    let tested = c.before.before.before.before in
-    let given = tested.before.before.before.before.before.before.before.args in
+    let given = c.args in
     let session = session_with given.state given.counts given.records in
     let rooms = rooms_of given.store.now given.table.now given.normal.now given.overlay.now given.output.now in
     rw c.unchanged.ensures (
-      step_refused session rooms given.bytes.now given.place given.last c.before.before.allowed.given.0.0
-          (subst (λ (answer : Answer). answer_outcome answer ≡ verdict (step_faults session rooms)) c.before.before.allowed.given.1 tested.step-check.ensures),
+      step_refused session rooms given.bytes.now given.place given.last c.in-Refused.refusal
+          (subst (λ (answer : Answer). answer_outcome answer ≡ verdict (step_faults session rooms)) c.in-Refused.is c.step_check-allowed.ensures),
       tt,
     )
 
-enum_told : tie.Need-enum-told
+enum_told : tie.Need-enum_told-1
 enum_told c = search rules
 
-read_requires : tie.Need-read-requires
+read_requires : tie.Need-read-found-requires
 read_requires c κs = search rules
 
-enum_known_found : tie.Need-enum-known-found
+enum_known_found : tie.Need-enum_known-found
 enum_known_found c = search rules
 
-add_start : tie.Need-overflow-add-start
-add_start c = let inside = inside_at c in let good = c.before.before.before.before.before.before.before.before.before.before.before.before.before.well-formed in search rules
+add_start : tie.Need-overflow_add-start
+add_start c = let inside = inside_at c in let good = c.well_formed in search rules
 
-add_end : tie.Need-overflow-add-end
-add_end c = let inside = inside_at c in let good = c.before.before.before.before.before.before.before.before.before.before.before.before.before.well-formed in search rules
+add_end : tie.Need-overflow_add-end
+add_end c = let inside = inside_at c in let good = c.well_formed in search rules
 
-sub_act : tie.Need-overflow-sub-act
+sub_act : tie.Need-slice_bounds-act-count
 sub_act c = search rules
 
-part_act_start : tie.Need-slice-bounds-act-start
+part_act_start : tie.Need-slice_bounds-act-start
 part_act_start c = search rules
 
-part_act_end : tie.Need-slice-bounds-act-end
-part_act_end c = let inside = inside_at c in let good = c.before.before.before.before.before.before.before.before.before.before.before.before.before.well-formed in search rules
+part_act_end : tie.Need-slice_bounds-act-end
+part_act_end c = let inside = inside_at c in let good = c.well_formed in search rules
 
-act_requires : tie.Need-act-requires
+act_requires : tie.Need-act-acted-requires
 act_requires c κs =
-    let tested = c.before.before.before.before.before.before.before.before.before.before.before.before in
-    let given = tested.before.before.before.before.before.before.before.args in
+    let given = c.args in
     let session = session_with given.state given.counts given.records in
     let rooms = rooms_of given.store.now given.table.now given.normal.now given.overlay.now given.output.now in
-    let asked = c.before.before.before.before.before.before.before.before.before in
-    let found_at = c.before.before.before.before.before.before.before in
-    let is = sym asked.read.ensures ∙ found_at.found.given.1 in
+    let is = sym c.read-found.ensures ∙ c.in-Is.is in
     let unread = drop given.place given.bytes.now in
-    let which = found_at.found.given.0.0 in
-    let count = found_at.found.given.0.1.0 in
+    let which = c.in-Is.record in
+    let count = c.in-Is.length in
     let accepted = found_accepted (judged_by session rooms given.last) unread is in
-    let passed = sym (subst (λ (answer : Answer). answer_outcome answer ≡ verdict (step_faults session rooms)) asked.before.enum_told.given.1 tested.step-check.ensures) in
+    let passed = sym (subst (λ (answer : Answer). answer_outcome answer ≡ verdict (step_faults session rooms)) c.in_default.is c.step_check-allowed.ensures) in
     let fit = fitted session rooms passed in (
       numbered_below (judged_by session rooms given.last) unread is,
       (
@@ -95,48 +91,45 @@ act_requires c κs =
       ),
     )
 
-enum_told_2 : tie.Need-enum-told-2
+enum_told_2 : tie.Need-enum_told-in-More
 enum_told_2 c = search rules
 
-unchanged_requires_2 : tie.Need-unchanged-requires-2
+unchanged_requires_2 : tie.Need-unchanged-requires-in-More
 unchanged_requires_2 c κs = search rules
 
-enum_known_found_2 : tie.Need-enum-known-found-2
+enum_known_found_2 : tie.Need-enum_known-found-in-Refused-found
 enum_known_found_2 c = search rules
 
-unchanged_requires_3 : tie.Need-unchanged-requires-3
+unchanged_requires_3 : tie.Need-unchanged-requires-in-Refused-found
 unchanged_requires_3 c κs = search rules
 
-same_length : tie.Need-same-length
+same_length : tie.Need-shape_of-store
 same_length c = search rules
 
-same_length_2 : tie.Need-same-length-2
+same_length_2 : tie.Need-shape_of-table
 same_length_2 c = search rules
 
-same_length_3 : tie.Need-same-length-3
+same_length_3 : tie.Need-shape_of-normal
 same_length_3 c = search rules
 
-same_length_4 : tie.Need-same-length-4
+same_length_4 : tie.Need-shape_of-overlay
 same_length_4 c = search rules
 
-same_length_5 : tie.Need-same-length-5
+same_length_5 : tie.Need-shape_of-output
 same_length_5 c = search rules
 
-returns_2 : tie.Need-returns-2
+returns_2 : tie.Need-returns-in-Is
 returns_2 c =
-    let tested = c.before.before.before.before.before.before.before.before.before.before.before.before.before.before.before.before.before.before.before.before.before.before.before.before.before in
-    let given = tested.before.before.before.before.before.before.before.args in
+    let given = c.args in
     let session = session_with given.state given.counts given.records in
     let rooms = rooms_of given.store.now given.table.now given.normal.now given.overlay.now given.output.now in
-    let asked = c.before.before.before.before.before.before.before.before.before.before.before.before.before.before.before.before.before.before.before.before.before.before in
-    let found_at = c.before.before.before.before.before.before.before.before.before.before.before.before.before.before.before.before.before.before.before.before in
-    let is = sym asked.read.ensures ∙ found_at.found.given.1 in
+    let is = sym c.read-found.ensures ∙ c.in-Is.is in
     let unread = drop given.place given.bytes.now in
-    let which = found_at.found.given.0.0 in
-    let count = found_at.found.given.0.1.0 in
+    let which = c.in-Is.record in
+    let count = c.in-Is.length in
     let accepted = found_accepted (judged_by session rooms given.last) unread is in
-    let passed = sym (subst (λ (answer : Answer). answer_outcome answer ≡ verdict (step_faults session rooms)) asked.before.enum_told.given.1 tested.step-check.ensures) in
-    let done = c.before.before.before.before.before.before.before.before.before.before.before.before.act.ensures in (
+    let passed = sym (subst (λ (answer : Answer). answer_outcome answer ≡ verdict (step_faults session rooms)) c.in_default.is c.step_check-allowed.ensures) in
+    let done = c.act-acted.ensures in (
       rw (add_assoc given.place 3 count)
           (step_acts session rooms given.bytes.now given.place given.last passed which count is _
           (body_part given.bytes.now given.place count accepted.length_is)
@@ -144,29 +137,27 @@ returns_2 c =
       done.1,
     )
 
-returns_3 : tie.Need-returns-3
+returns_3 : tie.Need-returns-in-More
 returns_3 c =
-    let tested = c.before.before.before.before.before.before in
-    let given = tested.before.before.before.before.before.before.before.args in
+    let given = c.args in
     let session = session_with given.state given.counts given.records in
     let rooms = rooms_of given.store.now given.table.now given.normal.now given.overlay.now given.output.now in
-    rw c.unchanged2.ensures (
+    rw c.unchanged-in-More.ensures (
       step_waits session rooms given.bytes.now given.place given.last
-          (sym (subst (λ (answer : Answer). answer_outcome answer ≡ verdict (step_faults session rooms)) c.before.before.before.before.enum_told.given.1 tested.step-check.ensures))
-          (sym c.before.before.before.read.ensures ∙ c.before.enum-told2.given.1),
+          (sym (subst (λ (answer : Answer). answer_outcome answer ≡ verdict (step_faults session rooms)) c.in_default.is c.step_check-allowed.ensures))
+          (sym c.read-found.ensures ∙ c.in-More.is),
       tt,
     )
 
-returns_4 : tie.Need-returns-4
+returns_4 : tie.Need-returns-in-Refused-found
 returns_4 c =
-    let tested = c.before.before.before.before.before.before.before in
-    let given = tested.before.before.before.before.before.before.before.args in
+    let given = c.args in
     let session = session_with given.state given.counts given.records in
     let rooms = rooms_of given.store.now given.table.now given.normal.now given.overlay.now given.output.now in
-    rw c.unchanged3.ensures (
+    rw c.unchanged-in-Refused-found.ensures (
       step_stops session rooms given.bytes.now given.place given.last
-          (sym (subst (λ (answer : Answer). answer_outcome answer ≡ verdict (step_faults session rooms)) c.before.before.before.before.before.enum_told.given.1 tested.step-check.ensures))
-          c.before.before.found2.given.0.0 (sym c.before.before.before.before.read.ensures ∙ c.before.before.found2.given.1),
+          (sym (subst (λ (answer : Answer). answer_outcome answer ≡ verdict (step_faults session rooms)) c.in_default.is c.step_check-allowed.ensures))
+          c.in-Refused-found.refusal (sym c.read-found.ensures ∙ c.in-Refused-found.is),
       tt,
     )
 

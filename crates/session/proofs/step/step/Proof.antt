@@ -3,29 +3,29 @@ use borrow.Author.Rules.{rules}
 use Rattle.session.proofs.step.step.Statement.{statement}
 use Rattle.session.proofs.step.step.Tie as tie
 
-record_step_requires : tie.Need-record-step-requires
+record_step_requires : tie.Need-record_step-done-requires
 record_step_requires c κs = search rules
 
 changed_requires : tie.Need-changed-requires
 changed_requires c κs = search rules
 
-same_length : tie.Need-same-length
+same_length : tie.Need-shape_of-store
 same_length c = search rules
 
-same_length_2 : tie.Need-same-length-2
+same_length_2 : tie.Need-shape_of-table
 same_length_2 c = search rules
 
-same_length_3 : tie.Need-same-length-3
+same_length_3 : tie.Need-shape_of-normal
 same_length_3 c = search rules
 
-same_length_4 : tie.Need-same-length-4
+same_length_4 : tie.Need-shape_of-overlay
 same_length_4 c = search rules
 
-same_length_5 : tie.Need-same-length-5
+same_length_5 : tie.Need-shape_of-output
 same_length_5 c = search rules
 
 returns : tie.Need-returns
-returns c = rw c.changed.ensures c.before.before.before.before.before.before.before.before.before.before.before.before.before.record-step.ensures.0
+returns c = rw c.changed.ensures c.record_step-done.ensures.0
 
 pub step_spec : {M : Type 1} → statement M
 step_spec =

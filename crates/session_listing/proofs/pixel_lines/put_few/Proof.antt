@@ -11,43 +11,42 @@ use Rattle.session_listing.proofs.pixel_lines.put_few.Statement.{statement}
 use Rattle.session_listing.proofs.pixel_lines.put_few.Tie as tie
 
 -- before each turn the first so many colours are put
-abbrev invariant_loop : tie.invariant-loop
+abbrev invariant_loop : tie.invariant-loop-i
 invariant_loop lent₀ at colours count next₀ i₀ lent next i = Putting pixels 7 lent₀ at colours count lent next i
 
 -- how many are left
-abbrev decreases_loop : tie.decreases-loop
+abbrev decreases_loop : tie.decreases-loop-i
 decreases_loop lent₀ at colours count next₀ i₀ lent next i = count - i
 
-loop_holds : tie.Need-loop-init invariant_loop decreases_loop
+loop_holds : tie.Need-loop-i-init invariant_loop decreases_loop
 loop_holds c = putting_start refl refl (search rules) (search rules)
 
-mul_put_pixel : tie.Need-overflow-mul-put-pixel invariant_loop decreases_loop
+mul_put_pixel : tie.Need-offset_bounds-colours-i invariant_loop decreases_loop
 mul_put_pixel c = omega arith
 
-shared_slice_read_put_pixel : tie.Need-shared-slice-read-put-pixel invariant_loop decreases_loop
+shared_slice_read_put_pixel : tie.Need-bounds-colours-i invariant_loop decreases_loop
 shared_slice_read_put_pixel c = omega arith
 
-put_pixel_requires : tie.Need-put-pixel-requires invariant_loop decreases_loop
+put_pixel_requires : tie.Need-put_pixel-next-requires invariant_loop decreases_loop
 put_pixel_requires c κs = search rules
 
-add_i : tie.Need-overflow-add-i invariant_loop decreases_loop
+add_i : tie.Need-overflow_add-i invariant_loop decreases_loop
 add_i c = omega arith
 
-loop_less : tie.Need-loop-smaller invariant_loop decreases_loop
+loop_less : tie.Need-loop-i-smaller invariant_loop decreases_loop
 loop_less c = omega arith
 
-loop_again : tie.Need-loop-preserved invariant_loop decreases_loop
+loop_again : tie.Need-loop-i-preserved invariant_loop decreases_loop
 unfolding hex
 loop_again c =
-    let l = c.before.before.before.before.before.before in
-    let colours = l.before.before.before.args.colours.now in
-    putting_next l.loop.invariant (search rules) c.before.before.put-pixel.ensures refl (pixels_more colours l.loop.i (search rules))
+    let colours = c.args.colours.now in
+    putting_next c.loop-i.invariant (search rules) c.put_pixel-next.ensures refl (pixels_more colours c.loop-i.i (search rules))
 
-same_length : tie.Need-same-length invariant_loop decreases_loop
-same_length c = c.before.loop.invariant.long
+same_length : tie.Need-shape_of-lent invariant_loop decreases_loop
+same_length c = c.loop-i.invariant.long
 
 returns : tie.Need-returns invariant_loop decreases_loop
-returns c = putting_over c.before.loop.invariant (search rules)
+returns c = putting_over c.loop-i.invariant (search rules)
 
 pub put_few_spec : {M : Type 1} → statement M
 put_few_spec =

@@ -11,52 +11,47 @@ use Rattle.session_listing.proofs.pixel_lines.put_fours.Statement.{statement}
 use Rattle.session_listing.proofs.pixel_lines.put_fours.Tie as tie
 
 -- before each turn four times so many colours are put
-abbrev invariant_loop : tie.invariant-loop
+abbrev invariant_loop : tie.invariant-loop-i
 invariant_loop pairs lent₀ at colours fours next₀ i₀ lent next i = (i ≤ fours) × (next ≡ at + 28 * i) × PutAhead lent₀ at (pixels (take (4 * i) colours)) lent next
 
 -- how many fours are left
-abbrev decreases_loop : tie.decreases-loop
+abbrev decreases_loop : tie.decreases-loop-i
 decreases_loop pairs lent₀ at colours fours next₀ i₀ lent next i = fours - i
 
-loop_holds : tie.Need-loop-init invariant_loop decreases_loop
+loop_holds : tie.Need-loop-i-init invariant_loop decreases_loop
 loop_holds c =
-    let given = c.before.before.args in
+    let given = c.args in
     (omega arith, omega arith, ahead_none given.lent.now given.at)
 
-mul_put_four : tie.Need-overflow-mul-put-four invariant_loop decreases_loop
+mul_put_four : tie.Need-overflow_mul-i invariant_loop decreases_loop
 mul_put_four c = omega arith
 
-put_four_requires : tie.Need-put-four-requires invariant_loop decreases_loop
+put_four_requires : tie.Need-put_four-next-requires invariant_loop decreases_loop
 put_four_requires c κs =
-    let l = c.before.before in
-    let start = l.before.before.before in
-    (start.requires.0, omega arith, omega (arith, l.loop.invariant.2.long))
+    (c.requires.0, omega arith, omega (arith, c.loop-i.invariant.2.long))
 
-add_i : tie.Need-overflow-add-i invariant_loop decreases_loop
+add_i : tie.Need-overflow_add-i invariant_loop decreases_loop
 add_i c = omega arith
 
-loop_less : tie.Need-loop-smaller invariant_loop decreases_loop
+loop_less : tie.Need-loop-i-smaller invariant_loop decreases_loop
 loop_less c = omega arith
 
-loop_again : tie.Need-loop-preserved invariant_loop decreases_loop
+loop_again : tie.Need-loop-i-preserved invariant_loop decreases_loop
 loop_again c =
-    let four = c.before.before in
-    let l = four.before.before.before in
-    let colours = l.before.before.before.args.colours.now in
-    let next : 4 * l.loop.i + 4 ≡ 4 * (l.loop.i + 1) = omega arith in (
+    let colours = c.args.colours.now in
+    let next : 4 * c.loop-i.i + 4 ≡ 4 * (c.loop-i.i + 1) = omega arith in (
       omega arith,
-      omega (arith, four.put_four.ensures.1),
-      ahead_as (ahead_then l.loop.invariant.2 four.put_four.ensures.0) (rw (← next) (pixels_part colours (4 * l.loop.i) 4)),
+      omega (arith, c.put_four-next.ensures.1),
+      ahead_as (ahead_then c.loop-i.invariant.2 c.put_four-next.ensures.0) (rw (← next) (pixels_part colours (4 * c.loop-i.i) 4)),
     )
 
-same_length : tie.Need-same-length invariant_loop decreases_loop
-same_length c = c.before.loop.invariant.2.long
+same_length : tie.Need-shape_of-lent invariant_loop decreases_loop
+same_length c = c.loop-i.invariant.2.long
 
 returns : tie.Need-returns invariant_loop decreases_loop
 returns c =
-    let l = c.before in
-    let all : l.loop.i ≡ l.before.before.before.args.fours = omega arith in
-    (rw (← all) l.loop.invariant.2, omega arith)
+    let all : c.loop-i.i ≡ c.args.fours = omega arith in
+    (rw (← all) c.loop-i.invariant.2, omega arith)
 
 pub put_fours_spec : {M : Type 1} → statement M
 put_fours_spec =

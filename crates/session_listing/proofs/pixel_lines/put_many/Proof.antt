@@ -11,43 +11,41 @@ use Rattle.session_listing.proofs.Pixels.{length_pixels, pixels_rest}
 use Rattle.session_listing.proofs.pixel_lines.put_many.Statement.{statement}
 use Rattle.session_listing.proofs.pixel_lines.put_many.Tie as tie
 
-sub_fours : tie.Need-overflow-sub-fours
+sub_fours : tie.Need-overflow_sub-fours
 sub_fours c = search rules
 
-mul_done : tie.Need-overflow-mul-done
+mul_done : tie.Need-overflow_mul-done
 mul_done c = search rules
 
-put_fours_requires : tie.Need-put-fours-requires
+put_fours_requires : tie.Need-put_fours-next-requires
 unfolding pair_table
 put_fours_requires c κs = (refl, omega arith, omega arith)
 
-mul_put_few : tie.Need-overflow-mul-put-few
+mul_put_few : tie.Need-offset_bounds-colours-done
 mul_put_few c = search rules
 
-sub_put_few : tie.Need-overflow-sub-put-few
+sub_put_few : tie.Need-slice_bounds-put_few-count
 sub_put_few c = search rules
 
-part_put_few_start : tie.Need-slice-bounds-put-few-start
+part_put_few_start : tie.Need-slice_bounds-put_few-start
 part_put_few_start c = search rules
 
-part_put_few_end : tie.Need-slice-bounds-put-few-end
+part_put_few_end : tie.Need-slice_bounds-put_few-end
 part_put_few_end c = search rules
 
-sub_put_few_2 : tie.Need-overflow-sub-put-few-2
+sub_put_few_2 : tie.Need-overflow_sub-count
 sub_put_few_2 c = search rules
 
-put_few_requires : tie.Need-put-few-requires
+put_few_requires : tie.Need-put_few-requires
 put_few_requires c κs = (simp (length-take, length-drop) (omega arith), omega arith)
 
-same_length : tie.Need-same-length
+same_length : tie.Need-shape_of-lent
 same_length c = search rules
 
 returns : tie.Need-returns
 returns c =
-    let few = c.before.before in
-    let fours = few.before.before.before.before.before in
-    let given = fours.before.before.before.before.before.args in
-    put_as (ahead_last fours.put-fours.ensures.0 _ (simp (length_pixels, length-take, length-drop) (omega arith)) few.put-few.ensures)
+    let given = c.args in
+    put_as (ahead_last c.put_fours-next.ensures.0 _ (simp (length_pixels, length-take, length-drop) (omega arith)) c.put_few.ensures)
     (pixels_rest given.colours.now (4 * ((given.count - 1) / 4)) given.count (omega arith) (omega arith))
 
 pub put_many_spec : {M : Type 1} → statement M

@@ -8,45 +8,39 @@ use Rattle.session_listing.proofs.FirstLine.{no_number, one_number, two_numbers}
 use Rattle.session_listing.proofs.put.put_parts.Statement.{statement}
 use Rattle.session_listing.proofs.put.put_parts.Tie as tie
 
-put_word_requires : tie.Need-put-word-requires
+put_word_requires : tie.Need-put_word-word-requires
 put_word_requires c κs = search rules
 
-same_length : tie.Need-same-length
+same_length : tie.Need-shape_of-lent-then-parts-eq0
 same_length c = search rules
 
-returns : tie.Need-returns
+returns : tie.Need-returns-then-parts-eq0
 returns c =
-    let word = c.before.before.before.before in
-    let parts = word.before.before.before.args.parts in
-    (put_as word.put_word.ensures.0 (no_number (take parts.letters (drop parts.from listing_words)) parts.first parts.second c.if1.true), omega arith)
+    let parts = c.args.parts in
+    (put_as c.put_word-word.ensures.0 (no_number (take parts.letters (drop parts.from listing_words)) parts.first parts.second c.if-parts-eq0.true), omega arith)
 
-put_spaced_requires : tie.Need-put-spaced-requires
+put_spaced_requires : tie.Need-put_spaced-next-requires
 put_spaced_requires c κs = omega arith
 
-same_length_2 : tie.Need-same-length-2
+same_length_2 : tie.Need-shape_of-lent-then-parts-eq1
 same_length_2 c = search rules
 
-returns_2 : tie.Need-returns-2
+returns_2 : tie.Need-returns-then-parts-eq1
 returns_2 c =
-    let next = c.before.before.before.before in
-    let word = next.before.before.before.before.before.before in
-    let parts = word.before.before.before.args.parts in
-    (put_as (put_then word.put_word.ensures.0 next.put-spaced.ensures.0) (one_number (take parts.letters (drop parts.from listing_words)) parts.first parts.second c.if2.true), omega arith)
+    let parts = c.args.parts in
+    (put_as (put_then c.put_word-word.ensures.0 c.put_spaced-next.ensures.0) (one_number (take parts.letters (drop parts.from listing_words)) parts.first parts.second c.if-parts-eq1.true), omega arith)
 
-put_spaced_requires_2 : tie.Need-put-spaced-requires-2
+put_spaced_requires_2 : tie.Need-put_spaced-requires
 put_spaced_requires_2 c κs = omega arith
 
-same_length_3 : tie.Need-same-length-3
+same_length_3 : tie.Need-shape_of-lent
 same_length_3 c = search rules
 
-returns_3 : tie.Need-returns-3
+returns_3 : tie.Need-returns
 returns_3 c =
-    let last = c.before.before in
-    let next = last.before.before.before.before.before.before in
-    let word = next.before.before.before.before.before.before in
-    let parts = word.before.before.before.args.parts in (
-      put_as (put_then (put_then word.put_word.ensures.0 next.put-spaced.ensures.0) last.put-spaced2.ensures.0)
-          (two_numbers (take parts.letters (drop parts.from listing_words)) parts.first parts.second parts.numbers next.before.before.if1.false last.before.before.if2.false),
+    let parts = c.args.parts in (
+      put_as (put_then (put_then c.put_word-word.ensures.0 c.put_spaced-next.ensures.0) c.put_spaced.ensures.0)
+          (two_numbers (take parts.letters (drop parts.from listing_words)) parts.first parts.second parts.numbers c.if-parts-eq0.false c.if-parts-eq1.false),
       omega arith,
     )
 

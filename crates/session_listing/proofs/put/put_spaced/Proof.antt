@@ -9,27 +9,25 @@ use Rattle.session_listing.proofs.FirstLine.{one_spaced}
 use Rattle.session_listing.proofs.put.put_spaced.Statement.{statement}
 use Rattle.session_listing.proofs.put.put_spaced.Tie as tie
 
-slice_write_lent : tie.Need-slice-write-lent
+slice_write_lent : tie.Need-bounds-lent-at
 slice_write_lent c = search rules
 
-add_put_number : tie.Need-overflow-add-put-number
+add_put_number : tie.Need-overflow_add-at
 add_put_number c = search rules
 
-put_number_requires : tie.Need-put-number-requires
-put_number_requires c κs = simp length-set (omega (arith, decimal_at_most_10 c.before.before.args.number (search rules)))
+put_number_requires : tie.Need-put_number-requires
+put_number_requires c κs = simp length-set (omega (arith, decimal_at_most_10 c.args.number (search rules)))
 
-same_length : tie.Need-same-length
+same_length : tie.Need-shape_of-lent
 same_length c =
-    let put = c.before.before in
-    let given = put.before.before.before.args in
-    put.put-number.auto.0 ∙ length-set given.lent.now given.at 32
+    let given = c.args in
+    c.put_number.auto.lent ∙ length-set given.lent.now given.at 32
 
 returns : tie.Need-returns
 returns c =
-    let put = c.before.before in
-    let given = put.before.before.before.args in
+    let given = c.args in
     let space = put_one given.lent.now given.at 32 (search rules) refl in
-    (put_as (put_then space put.put-number.ensures) (one_spaced given.number), omega (arith, decimal_at_most_10 given.number (search rules)))
+    (put_as (put_then space c.put_number.ensures) (one_spaced given.number), omega (arith, decimal_at_most_10 given.number (search rules)))
 
 pub put_spaced_spec : {M : Type 1} → statement M
 put_spaced_spec =

@@ -8,42 +8,41 @@ use Rattle.session_listing.proofs.Rendering.{without_room, with_room}
 use Rattle.session_listing.proofs.render.render.Statement.{statement}
 use Rattle.session_listing.proofs.render.render.Tie as tie
 
-of_requires : tie.Need-of-requires
+of_requires : tie.Need-of-parts-requires
 of_requires c κs = search rules
 
-returns : tie.Need-returns
+returns : tie.Need-returns-then-text-at
 returns c =
-    let given = c.before.before.before.before.args in
+    let given = c.args in
     without_room (entry_says given.entry) given.output.now given.text.now given.at (omega arith)
 
-sub_if2 : tie.Need-overflow-sub-if2
+sub_if2 : tie.Need-overflow_sub-text
 sub_if2 c = search rules
 
-mul_if2 : tie.Need-overflow-mul-if2
+mul_if2 : tie.Need-overflow_mul-parts
 mul_if2 c = search rules
 
-add_if2 : tie.Need-overflow-add-if2
+add_if2 : tie.Need-overflow_add-parts
 add_if2 c = search rules
 
-returns_2 : tie.Need-returns-2
+returns_2 : tie.Need-returns-then-text-at-2
 returns_2 c =
-    let given = c.before.before.before.before.before.before.args in
+    let given = c.args in
     without_room (entry_says given.entry) given.output.now given.text.now given.at
     (omega (arith, shown_length (entry_says given.entry) given.output.now))
 
-put_entry_requires : tie.Need-put-entry-requires
+put_entry_requires : tie.Need-put_entry-requires
 put_entry_requires c κs = search rules
 
-same_length : tie.Need-same-length
+same_length : tie.Need-shape_of-text
 same_length c = search rules
 
-returns_3 : tie.Need-returns-3
+returns_3 : tie.Need-returns
 returns_3 c =
-    let parts = c.before.before.before.before.before.before.before in
-    let given = parts.before.before.before.args in
+    let given = c.args in
     with_room (entry_says given.entry) given.output.now given.text.now given.at
     (omega (arith, shown_length (entry_says given.entry) given.output.now))
-    (put_as c.before.before.put-entry.ensures (whole_text (entry_says given.entry) given.output.now parts.of.result parts.of.ensures))
+    (put_as c.put_entry.ensures (whole_text (entry_says given.entry) given.output.now c.of-parts.result c.of-parts.ensures))
 
 pub render_spec : {M : Type 1} → statement M
 render_spec =

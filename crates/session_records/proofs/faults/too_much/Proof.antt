@@ -4,21 +4,20 @@ use Rattle.session_records.specs.Faults.{too_much}
 use Rattle.session_records.proofs.faults.too_much.Statement.{statement}
 use Rattle.session_records.proofs.faults.too_much.Tie as tie
 
-too_many_records_requires : tie.Need-too-many-records-requires
+too_many_records_requires : tie.Need-too_many_records-requires
 too_many_records_requires c κs = search rules
 
-returns : tie.Need-returns
+returns : tie.Need-returns-then-too_many_records
 unfolding too_much
-returns c = simp (← c.before.too-many-records.ensures, c.if1.true)
+returns c = simp (← c.too_many_records.ensures, c.if-too_many_records.true)
 
-too_long_table_requires : tie.Need-too-long-table-requires
+too_long_table_requires : tie.Need-too_long_table-requires
 too_long_table_requires c κs = search rules
 
-returns_2 : tie.Need-returns-2
+returns_2 : tie.Need-returns
 unfolding too_much
 returns_2 c =
-    let first = c.before.before in
-    simp (← first.too-many-records.ensures, c.before.if1.false, ← c.too-long-table.ensures)
+    simp (← c.too_many_records.ensures, c.if-too_many_records.false, ← c.too_long_table.ensures)
 
 pub too_much_spec : {M : Type 1} → statement M
 too_much_spec =

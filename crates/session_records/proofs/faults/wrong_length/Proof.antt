@@ -6,21 +6,21 @@ use Rattle.session_records.proofs.faults.wrong_length.Tie as tie
 
 ruleset tests = (le-leb, lt-leb)
 
-returns : tie.Need-returns
+returns : tie.Need-returns-then-bytes-lt3
 returns c = search tests
 
-shared_slice_read_allows : tie.Need-shared-slice-read-allows
+shared_slice_read_allows : tie.Need-bounds-bytes-0
 shared_slice_read_allows c = search rules
 
-length_of_requires : tie.Need-length-of-requires
+length_of_requires : tie.Need-length_of-requires
 length_of_requires c κs = search rules
 
 allows_requires : tie.Need-allows-requires
 allows_requires c κs = search rules
 
-returns_2 : tie.Need-returns-2
+returns_2 : tie.Need-returns
 returns_2 c =
-    simp (le-leb _ _ c.before.before.before.if1.false, c.allows.ensures, c.before.length-of.ensures.0)
+    simp (le-leb _ _ c.if-bytes-lt3.false, c.allows.ensures, c.length_of.ensures.0)
 
 pub wrong_length_spec : {M : Type 1} → statement M
 wrong_length_spec =

@@ -6,25 +6,20 @@ use Rattle.session_records.proofs.Answers.{found_more, found_cut_much, found_cut
 use Rattle.session_records.proofs.record.beginning.Statement.{statement}
 use Rattle.session_records.proofs.record.beginning.Tie as tie
 
-returns : tie.Need-returns
+returns : tie.Need-returns-then-not-context
 returns c =
-    let start = c.before.before.before in
-    sym (found_more start.args.context start.args.bytes.now start.requires.0 start.requires.1 (not-true start.args.context.last c.if1.true))
+    sym (found_more c.args.context c.args.bytes.now c.requires.0 c.requires.1 (not-true c.args.context.last c.if-not-context.true))
 
-too_much_requires : tie.Need-too-much-requires
+too_much_requires : tie.Need-too_much-requires
 too_much_requires c κs = search rules
 
-returns_2 : tie.Need-returns-2
+returns_2 : tie.Need-returns-then-too_much
 returns_2 c =
-    let ends = c.before.before in
-    let start = ends.before.before.before in
-    sym (found_cut_much start.args.context start.args.bytes.now start.requires.0 start.requires.1 (not-false start.args.context.last ends.if1.false) (sym c.before.too_much.ensures ∙ c.if2.true))
+    sym (found_cut_much c.args.context c.args.bytes.now c.requires.0 c.requires.1 (not-false c.args.context.last c.if-not-context.false) (sym c.too_much.ensures ∙ c.if-too_much.true))
 
-returns_3 : tie.Need-returns-3
+returns_3 : tie.Need-returns
 returns_3 c =
-    let ends = c.before.before in
-    let start = ends.before.before.before in
-    sym (found_cut start.args.context start.args.bytes.now start.requires.0 start.requires.1 (not-false start.args.context.last ends.if1.false) (sym c.before.too_much.ensures ∙ c.if2.false))
+    sym (found_cut c.args.context c.args.bytes.now c.requires.0 c.requires.1 (not-false c.args.context.last c.if-not-context.false) (sym c.too_much.ensures ∙ c.if-too_much.false))
 
 pub beginning_spec : {M : Type 1} → statement M
 beginning_spec = tie.close (tie.spec returns too_much_requires returns_2 returns_3)

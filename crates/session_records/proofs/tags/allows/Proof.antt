@@ -5,20 +5,20 @@ use Rattle.session_records.specs.Tags.{allows}
 use Rattle.session_records.proofs.tags.allows.Statement.{statement}
 use Rattle.session_records.proofs.tags.allows.Tie as tie
 
-lengths_of_requires : tie.Need-lengths-of-requires
+lengths_of_requires : tie.Need-lengths_of-lengths-requires
 lengths_of_requires c κs = search rules
 
-returns : tie.Need-returns
+returns : tie.Need-returns-then-length-lengths
 unfolding allows
 returns c =
-    let lengths = c.before.before.lengths-of in
-    simp (← lengths.ensures, lt-leb _ _ c.if1.true)
+    let lengths = c.lengths_of-lengths in
+    simp (← lengths.ensures, lt-leb _ _ c.if-length-lengths.true)
 
-returns_2 : tie.Need-returns-2
+returns_2 : tie.Need-returns
 unfolding allows
 returns_2 c =
-    let lengths = c.before.before.before.lengths-of in
-    simp (← lengths.ensures, le-leb _ _ c.before.if1.false)
+    let lengths = c.lengths_of-lengths in
+    simp (← lengths.ensures, le-leb _ _ c.if-length-lengths.false)
 
 pub allows_spec : {M : Type 1} → statement M
 allows_spec = tie.close (tie.spec lengths_of_requires returns returns_2)

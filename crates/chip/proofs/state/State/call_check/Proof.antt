@@ -9,18 +9,16 @@ use Rattle.chip.proofs.state.State.call_check.Tie as tie
 good_requires : tie.Need-good-requires
 good_requires c κs = search rules
 
-returns : tie.Need-returns
-returns c = simp (← c.before.good2.ensures, not-true c.before.good2.result c.if1.true) refl
+returns : tie.Need-returns-then-not-good
+returns c = simp (← c.good.ensures, c.if-not-good.true) refl
 
-returns_2 : tie.Need-returns-2
+returns_2 : tie.Need-returns-then-words-ne-STORE_WORDS
 returns_2 c =
-    let g = c.before.before in
-    simp (← g.good2.ensures, not-false g.good2.result c.before.if1.false, ne_eqb g.before.args.words 4963 (λ e. omega arith)) refl
+    simp (← c.good.ensures, c.if-not-good.false, ne_eqb c.args.words 4963 (λ e. omega arith)) refl
 
-returns_3 : tie.Need-returns-3
+returns_3 : tie.Need-returns
 returns_3 c =
-    let g = c.before.before in
-    simp (← g.good2.ensures, not-false g.good2.result c.before.if1.false, eq-eqb g.before.args.words 4963 (omega arith)) refl
+    simp (← c.good.ensures, c.if-not-good.false, eq-eqb c.args.words 4963 (omega arith)) refl
 
 pub call_check_spec : {M : Type 1} → statement M
 call_check_spec = tie.close (tie.spec good_requires returns returns_2 returns_3)

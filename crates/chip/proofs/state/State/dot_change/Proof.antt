@@ -15,59 +15,52 @@ use Rattle.chip.proofs.state.State.dot_change.Statement.{statement}
 use Rattle.chip.proofs.state.State.dot_change.Tie as tie
 
 -- a chip that is what one dot more leaves, with the signals found, is what the dot leaves and reports
-made : (c : tie.After-one-more) {after : Chip}
-    → let given = c.before.before.before.before.before.before.before.args in
-    after ≡ after_dot (given.self, given.store.now) → (after, ok (Last c.before.signals.result)) ≡ dotted (given.self, given.store.now)
+made : (c : tie.After-one_more-pass) {after : Chip}
+    → let given = c.args in
+    after ≡ after_dot (given.self, given.store.now) → (after, ok (Last c.signals-signals.result)) ≡ dotted (given.self, given.store.now)
 made c {after} is =
-    let told = c.before.before.before in
-    let tested = told.before.before in
-    let given = tested.before.before.args in
+    let given = c.args in
     let chip : Chip = (given.self, given.store.now) in
-    ap (λ (after : Chip). (after, ok (Last c.before.signals.result))) is
-    ∙ ap (λ (signals : Signals). (after_dot chip, ok (Last signals))) c.before.signals.ensures
-    ∙ sym (dot_done chip (sym tested.call-check.ensures ∙ ap answer_outcome told.enum_told.given.1))
+    ap (λ (after : Chip). (after, ok (Last c.signals-signals.result))) is
+    ∙ ap (λ (signals : Signals). (after_dot chip, ok (Last signals))) c.signals-signals.ensures
+    ∙ sym (dot_done chip (sym c.call_check-allowed.ensures ∙ ap answer_outcome c.in_default.is))
 
-call_check_requires : tie.Need-call-check-requires
+call_check_requires : tie.Need-call_check-allowed-requires
 call_check_requires c κs = search rules
 
-enum_known_allowed : tie.Need-enum-known-allowed
+enum_known_allowed : tie.Need-enum_known-allowed
 enum_known_allowed c = search rules
 
 unchanged_requires : tie.Need-unchanged-requires
 unchanged_requires c κs = search rules
 
-returns : tie.Need-returns
+returns : tie.Need-returns-in-Refused
 returns c =
-    let f = c.before.before.before.before in
     rw c.unchanged.ensures
-    (sym (dot_unfit (f.before.before.args.self, f.before.before.args.store.now) _ (sym f.call-check.ensures ∙ ap answer_outcome c.before.before.allowed.given.1)), tt)
+    (sym (dot_unfit (c.args.self, c.args.store.now) _ (sym c.call_check-allowed.ensures ∙ ap answer_outcome c.in-Refused.is)), tt)
 
-enum_told : tie.Need-enum-told
+enum_told : tie.Need-enum_told-1
 enum_told c = search rules
 
-signals_requires : tie.Need-signals-requires
+signals_requires : tie.Need-signals-signals-requires
 signals_requires c κs = search rules
 
-one_more_requires : tie.Need-one-more-requires
-one_more_requires c κs = (search rules, sym (ap (λ (signals : Signals). signals.blank) c.signals.ensures))
+one_more_requires : tie.Need-one_more-pass-requires
+one_more_requires c κs = (search rules, sym (ap (λ (signals : Signals). signals.blank) c.signals-signals.ensures))
 
 passing_requires : tie.Need-passing-requires
 passing_requires c κs =
-    let one = c.before in
-    let told = one.before.before.before in
-    let fine = allowed_says _ _ (sym told.before.before.call-check.ensures ∙ ap answer_outcome told.enum_told.given.1) in
-    (fine.0, one.one_more.ensures.0, fine.1)
+    let fine = allowed_says _ _ (sym c.call_check-allowed.ensures ∙ ap answer_outcome c.in_default.is) in
+    (fine.0, c.one_more-pass.ensures.0, fine.1)
 
-same_length : tie.Need-same-length
+same_length : tie.Need-shape_of-store
 same_length c = search rules
 
-returns_2 : tie.Need-returns-2
+returns_2 : tie.Need-returns
 unfolding without stored_by
 returns_2 c =
-    let done = c.before.before in
-    let one = done.before.before in
-    let given = one.before.before.before.before.before.before.before.args in
-    (made one (done.passing.ensures.0 ∙ one.one_more.ensures.1 given.store.now), done.passing.ensures.1)
+    let given = c.args in
+    (made c.before.before.before.before (c.passing.ensures.0 ∙ c.one_more-pass.ensures.1 given.store.now), c.passing.ensures.1)
 
 pub dot_change_spec : {M : Type 1} → statement M
 dot_change_spec =

@@ -11,45 +11,41 @@ use Rattle.chip.proofs.state.State.good.Statement.{statement}
 use Rattle.chip.proofs.state.State.good.Tie as tie
 
 -- past the first test no control word has stray bits
-clean : (c : tie.Else1) → good_words 0 c.before.before.before.args.self.control ≡ true
-clean c = sym c.before.good-words.ensures ∙ not-false c.before.good-words.result c.if1.false
+clean : (c : tie.Else-not-good_words) → good_words 0 c.args.self.control ≡ true
+clean c = sym c.good_words.ensures ∙ c.if-not-good_words.false
 
-good_words_requires : tie.Need-good-words-requires
+good_words_requires : tie.Need-good_words-requires
 good_words_requires c κs = search rules
 
-returns : tie.Need-returns
+returns : tie.Need-returns-then-not-good_words
 unfolding good_state
-returns c = simp (← c.before.good-words.ensures, not-true c.before.good-words.result c.if1.true)
+returns c = simp (← c.good_words.ensures, c.if-not-good_words.true)
 
-returns_2 : tie.Need-returns-2
+returns_2 : tie.Need-returns-then-self-gt4095
 unfolding good_state
 returns_2 c =
-    let e = c.before.before in
-    let s = e.before.before.before.args.self in
-    simp (clean e, lt-leb s.at.x 4095 (omega arith))
+    let s = c.args.self in
+    simp (clean c.before.before, lt-leb s.at.x 4095 (omega arith))
 
-returns_3 : tie.Need-returns-3
+returns_3 : tie.Need-returns-then-self-gt4095-2
 unfolding good_state
 returns_3 c =
-    let e = c.before.before.before.before in
-    let s = e.before.before.before.args.self in
-    simp (clean e, le-leb s.at.x 4095 (omega arith), lt-leb s.at.y 4095 (omega arith))
+    let s = c.args.self in
+    simp (clean c.before.before.before.before, le-leb s.at.x 4095 (omega arith), lt-leb s.at.y 4095 (omega arith))
 
-returns_4 : tie.Need-returns-4
+returns_4 : tie.Need-returns-then-self-eq0
 returns_4 c =
-    let e = c.before.before.before.before.before.before in
-    let s = e.before.before.before.args.self in
-    sym (says_good s (clean e) (omega arith) (omega arith) (none_good s.queue c.if4.true))
+    let s = c.args.self in
+    sym (says_good s (clean c.before.before.before.before.before.before) (omega arith) (omega arith) (none_good s.queue c.if-self-eq0.true))
 
 good_requires : tie.Need-good-requires
 good_requires c κs = search rules
 
-returns_5 : tie.Need-returns-5
+returns_5 : tie.Need-returns
 unfolding good_state
 returns_5 c =
-    let e = c.before.before.before.before.before.before.before.before in
-    let s = e.before.before.before.args.self in
-    simp (clean e, le-leb s.at.x 4095 (omega arith), le-leb s.at.y 4095 (omega arith)) c.good2.ensures
+    let s = c.args.self in
+    simp (clean c.before.before.before.before.before.before.before.before, le-leb s.at.x 4095 (omega arith), le-leb s.at.y 4095 (omega arith)) c.good.ensures
 
 pub good_spec : {M : Type 1} → statement M
 good_spec =

@@ -11,25 +11,23 @@ use Rattle.chip.proofs.Passes.{none_leave}
 use Rattle.chip.proofs.state.State.passing.Statement.{statement}
 use Rattle.chip.proofs.state.State.passing.Tie as tie
 
-returns : tie.Need-returns
+returns : tie.Need-returns-then-taken-eq0
 returns c =
-    let given = c.before.before.before.before.args in
-    (none_leave given.self given.store.now given.pass c.if1.true, tt)
+    let given = c.args in
+    (none_leave given.self given.store.now given.pass c.if-taken-eq0.true, tt)
 
 apply_requires : tie.Need-apply-requires
 apply_requires c κs =
-    let start = c.before.before.before.before.before.before in
-    ((good_says start.args.self start.requires.0).3, start.requires.1, start.requires.2)
+    ((good_says c.args.self c.requires.0).3, c.requires.1, c.requires.2)
 
-same_length : tie.Need-same-length
+same_length : tie.Need-shape_of-store
 same_length c = search rules
 
-returns_2 : tie.Need-returns-2
+returns_2 : tie.Need-returns
 returns_2 c =
-    let start = c.before.before.before.before.before.before.before.before.before in
-    let given = start.args in (
-      ap (λ (store : List ℕ). (changed_by given.self (record { control = given.self.control; at = given.pass.at; queue = Drained given.pass.taken }), store)) c.before.before.apply.ensures,
-      (omega (arith, c.before.before.before.before.before.if1.false), start.requires.1),
+    let given = c.args in (
+      ap (λ (store : List ℕ). (changed_by given.self (record { control = given.self.control; at = given.pass.at; queue = Drained given.pass.taken }), store)) c.apply.ensures,
+      (omega (arith, c.if-taken-eq0.false), c.requires.1),
     )
 
 pub passing_spec : {M : Type 1} → statement M

@@ -18,79 +18,71 @@ use Rattle.chip.proofs.state.State.put.Statement.{statement}
 use Rattle.chip.proofs.state.State.put.Tie as tie
 
 -- past the first test the write acts at once
-at_once : (c : tie.Else1) → waits c.before.before.before.before.before.args.register ≡ false
-at_once c = sym c.before.waits.ensures ∙ c.if1.false
+at_once : (c : tie.Else-waits) → waits c.args.register ≡ false
+at_once c = sym c.waits.ensures ∙ c.if-waits.false
 
 -- the place that the code found
-found : (c : tie.After-store-place) {place : StorePlace} → c.store-place.result ≡ place → store_place c.before.before.before.before.before.before.args.register ≡ place
-found c is = sym c.store-place.ensures ∙ is
+found : (c : tie.After-store_place-place) {place : StorePlace} → c.store_place-place.result ≡ place → store_place c.args.register ≡ place
+found c is = sym c.store_place-place.ensures ∙ is
 
 -- a place in the store is one of its words
-below : (c : tie.After-known-told) → c.before.place.given.0.0 < store_length
+below : (c : tie.In-At) → c.in-At.index < store_length
 below c =
-    let p = c.before.before.before in
-    let s = p.before.before.before.before.before.before in
-    place_below s.args.register _ (found p c.before.place.given.1) s.requires.1
+    place_below c.args.register _ (found c.before c.in-At.is) c.requires.1
 
 waits_requires : tie.Need-waits-requires
 waits_requires c κs = search rules
 
-returns : tie.Need-returns
+returns : tie.Need-returns-then-waits
 returns c =
-    let start = c.before.before.before.before.before in
-    let given = start.args in
-    let waiting = sym c.before.waits.ensures ∙ c.if1.true in
-    let some : full given.self.queue ≡ false = subst (λ (test : Bool). (test && full given.self.queue) ≡ false) waiting start.requires.3 in
-    let sized : length given.self.queue.slots ≡ 64 = simp length-map at start.well-formed.0.1.1.1.1.0.1.1.1.0.1.0.1 in
+    let given = c.args in
+    let waiting = sym c.waits.ensures ∙ c.if-waits.true in
+    let some : full given.self.queue ≡ false = subst (λ (test : Bool). (test && full given.self.queue) ≡ false) waiting c.requires.3 in
+    let sized : length given.self.queue.slots ≡ 64 = c.well_formed.0.1.1.1.1.0.1.1.1.0.1.0.1 in
     let more = not_full given.self.queue some in
     (sym (put_waits (given.self, given.store.now) given.register given.value waiting), (more, omega (arith, more, sized)))
 
-store_place_requires : tie.Need-store-place-requires
+store_place_requires : tie.Need-store_place-place-requires
 store_place_requires c κs = search rules
 
-enum_known_place : tie.Need-enum-known-place
+enum_known_place : tie.Need-enum_known-place
 enum_known_place c = search rules
 
-mul_store : tie.Need-overflow-mul-store
+mul_store : tie.Need-offset_bounds-store-index
 mul_store c = omega (arith, below c)
 
-slice_write_store : tie.Need-slice-write-store
-slice_write_store c = omega (arith, below c, c.before.before.before.before.before.before.before.before.before.requires.2)
+slice_write_store : tie.Need-bounds-store-index
+slice_write_store c = omega (arith, below c, c.requires.2)
 
 unchanged_requires : tie.Need-unchanged-requires
 unchanged_requires c κs = search rules
 
-enum_told : tie.Need-enum-told
+enum_told : tie.Need-enum_told-1
 enum_told c = search rules
 
-cast_index : tie.Need-overflow-cast-index
+cast_index : tie.Need-overflow_cast-index
 cast_index c = search rules
 
-mul_control : tie.Need-overflow-mul-control
+mul_control : tie.Need-offset_bounds-control-index
 mul_control c = search rules
 
-array_write_control : tie.Need-array-write-control
+array_write_control : tie.Need-bounds-control-index
 array_write_control c =
-    let p = c.before.before in
-    let s = p.before.before.before.before.before.before in
-    let control : s.args.register.block ≡ Control = nowhere_control s.args.register.block s.args.register.word (found p c.enum_told.given.1) in
-    leb-false 9 _ (rw control at s.requires.0)
+    let control : c.args.register.block ≡ Control = nowhere_control c.args.register.block c.args.register.word (found c.before c.in-Nowhere.is) in
+    leb-false 9 _ (rw control at c.requires.0)
 
-same_length : tie.Need-same-length
+same_length : tie.Need-shape_of-store
 same_length c = search rules
 
-returns_2 : tie.Need-returns-2
+returns_2 : tie.Need-returns-in-At
 returns_2 c =
-    let known = c.before in
-    let p = known.before.before.before in
-    let s = p.before.before.before.before.before.before.args in
-    rw c.unchanged.ensures (sym (put_placed (s.self, s.store.now) s.register s.value (at_once p.before) (found p known.before.place.given.1)), tt)
+    let s = c.args in
+    rw c.unchanged.ensures (sym (put_placed (s.self, s.store.now) s.register s.value (at_once c.before.before.before) (found c.before.before c.in-At.is)), tt)
 
-returns_3 : tie.Need-returns-3
+returns_3 : tie.Need-returns-in-Nowhere
 returns_3 c =
-    let p = c.before.before in
-    let s = p.before.before.before.before.before.before.args in
-    (sym (put_placed (s.self, s.store.now) s.register s.value (at_once p.before) (found p c.enum_told.given.1)), tt)
+    let s = c.args in
+    (sym (put_placed (s.self, s.store.now) s.register s.value (at_once c.before.before) (found c.before c.in-Nowhere.is)), tt)
 
 pub put_spec : {M : Type 1} → statement M
 put_spec =

@@ -3,7 +3,7 @@ use borrow.Author.Rules.{rules}
 use Rattle.chip.proofs.state.State.read.Statement.{statement}
 use Rattle.chip.proofs.state.State.read.Tie as tie
 
-read_answer_requires : tie.Need-read-answer-requires
+read_answer_requires : tie.Need-read_answer-requires
 read_answer_requires c κs = search rules
 
 returns : tie.Need-returns

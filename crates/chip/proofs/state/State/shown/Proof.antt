@@ -12,52 +12,46 @@ use Rattle.chip.proofs.state.State.shown.Statement.{statement}
 use Rattle.chip.proofs.state.State.shown.Tie as tie
 
 -- the place that the code found
-found : (c : tie.After-store-place) {place : StorePlace} → c.store-place.result ≡ place → store_place c.before.before.args.register ≡ place
-found c is = sym c.store-place.ensures ∙ is
+found : (c : tie.After-store_place-place) {place : StorePlace} → c.store_place-place.result ≡ place → store_place c.args.register ≡ place
+found c is = sym c.store_place-place.ensures ∙ is
 
 -- a place in the store is one of its words
-below : (c : tie.After-known-told) → c.before.place.given.0.0 < store_length
+below : (c : tie.In-At) → c.in-At.index < store_length
 below c =
-    let p = c.before.before.before in
-    place_below p.before.before.args.register _ (found p c.before.place.given.1) p.before.before.requires.1
+    place_below c.args.register _ (found c.before c.in-At.is) c.requires.1
 
-store_place_requires : tie.Need-store-place-requires
+store_place_requires : tie.Need-store_place-place-requires
 store_place_requires c κs = search rules
 
-enum_known_place : tie.Need-enum-known-place
+enum_known_place : tie.Need-enum_known-place
 enum_known_place c = search rules
 
-mul_kept : tie.Need-overflow-mul-kept
+mul_kept : tie.Need-offset_bounds-store-index
 mul_kept c = omega (arith, below c)
 
-shared_slice_read_kept : tie.Need-shared-slice-read-kept
-shared_slice_read_kept c = omega (arith, below c.before, c.before.before.before.before.before.before.requires.2)
+shared_slice_read_kept : tie.Need-bounds-store-index
+shared_slice_read_kept c = omega (arith, below c.before, c.requires.2)
 
 kept_requires : tie.Need-kept-requires
 kept_requires c κs = search rules
 
-enum_told : tie.Need-enum-told
+enum_told : tie.Need-enum_told-1
 enum_told c = search rules
 
-shown_of_control_requires : tie.Need-shown-of-control-requires
+shown_of_control_requires : tie.Need-shown_of_control-requires
 shown_of_control_requires c κs =
-    let p = c.before.before in
-    let s = p.before.before in
-    let control : s.args.register.block ≡ Control = nowhere_control s.args.register.block s.args.register.word (found p c.enum_told.given.1) in
-    (s.requires.0, rw control at s.requires.1)
+    let control : c.args.register.block ≡ Control = nowhere_control c.args.register.block c.args.register.word (found c.before c.in-Nowhere.is) in
+    (c.requires.0, rw control at c.requires.1)
 
-returns : tie.Need-returns
+returns : tie.Need-returns-in-At
 returns c =
-    let k = c.before.before in
-    let p = k.before.before.before in
-    let s = p.before.before.args in
-    c.kept.ensures ∙ sym (ap (shows_at (s.self, s.store.now) s.register) (found p k.before.place.given.1))
+    let s = c.args in
+    c.kept.ensures ∙ sym (ap (shows_at (s.self, s.store.now) s.register) (found c.before.before.before c.in-At.is))
 
-returns_2 : tie.Need-returns-2
+returns_2 : tie.Need-returns-in-Nowhere
 returns_2 c =
-    let p = c.before.before.before in
-    let s = p.before.before.args in
-    c.shown-of-control.ensures ∙ sym (ap (shows_at (s.self, s.store.now) s.register) (found p c.before.enum_told.given.1))
+    let s = c.args in
+    c.shown_of_control.ensures ∙ sym (ap (shows_at (s.self, s.store.now) s.register) (found c.before.before c.in-Nowhere.is))
 
 pub shown_spec : {M : Type 1} → statement M
 shown_spec =

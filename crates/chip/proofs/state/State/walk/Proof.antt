@@ -10,33 +10,32 @@ use Rattle.chip.proofs.Passes.{walks_all, walks_to_blank}
 use Rattle.chip.proofs.state.State.walk.Statement.{statement}
 use Rattle.chip.proofs.state.State.walk.Tie as tie
 
-element_copy_out_total : tie.Need-element-copy-out-total
+element_copy_out_total : tie.Need-bounds-self-1
 element_copy_out_total c = search rules
 
 after_requires : tie.Need-after-requires
 after_requires c κs = search rules
 
-returns : tie.Need-returns
+returns : tie.Need-returns-then-self-pass
 returns c =
-    let tested = c.before in
-    let given = tested.before.before.before.before.args in
-    subst (λ (at : Position). WalksOn given.t1 given.pass given.count (record { at = at; left = 0 })) (sym c.after.ensures)
-    (walks_all given.t1 given.pass given.count tested.if1.true)
+    let given = c.args in
+    subst (λ (at : Position). WalksOn given.self given.pass given.count (record { at = at; left = 0 })) (sym c.after.ensures)
+    (walks_all given.self given.pass given.count c.if-self-pass.true)
 
 windows_requires : tie.Need-windows-requires
 windows_requires c κs = search rules
 
-to_blank_requires : tie.Need-to-blank-requires
+to_blank_requires : tie.Need-to_blank-requires
 to_blank_requires c κs = search rules
 
-returns_2 : tie.Need-returns-2
+returns_2 : tie.Need-returns
 returns_2 c =
-    let given = c.before.before.before.before.before.before.args in
-    subst (WalksOn given.t1 given.pass given.count)
+    let given = c.args in
+    subst (WalksOn given.self given.pass given.count)
     (sym
-    (c.to-blank.ensures
-    ∙ ap (λ (windows : Windows). walked windows given.pass.at (control_word given.t1 1) given.count) c.before.windows.ensures))
-    (walks_to_blank given.t1 given.pass given.count)
+    (c.to_blank.ensures
+    ∙ ap (λ (windows : Windows). walked windows given.pass.at (control_word given.self 1) given.count) c.windows.ensures))
+    (walks_to_blank given.self given.pass given.count)
 
 pub walk_spec : {M : Type 1} → statement M
 walk_spec =

@@ -15,64 +15,57 @@ use Rattle.chip.proofs.state.State.write_change.Statement.{statement}
 use Rattle.chip.proofs.state.State.write_change.Tie as tie
 
 -- the verdict is on the faults of the state and the store that were passed
-judges : (c : tie.After-judged) {judged : Verdict} → c.judged.result ≡ judged
-    → let given = c.before.before.before.before.before.args in
+judges : (c : tie.After-judged-verdict) {judged : Verdict} → c.judged-verdict.result ≡ judged
+    → let given = c.args in
     Judged (verdict (write_faults (given.self, given.store.now) given.address given.value)) (named given.address) judged
 judges c {judged} is =
-    let given = c.before.before.before.before.before.args in
+    let given = c.args in
     subst (λ (test : Outcome Numbered (Unit {0})). Judged test (named given.address) judged)
-    (sym (write_tested (given.self, given.store.now) given.address given.value c.before.before.call-check.result c.before.full.result c.before.before.call-check.ensures c.before.full.ensures))
-    (subst (Judged _ (named given.address)) is c.judged.ensures)
+    (sym (write_tested (given.self, given.store.now) given.address given.value c.call_check.result c.full.result c.call_check.ensures c.full.ensures))
+    (subst (Judged _ (named given.address)) is c.judged-verdict.ensures)
 
-call_check_requires : tie.Need-call-check-requires
+call_check_requires : tie.Need-call_check-requires
 call_check_requires c κs = search rules
 
 full_requires : tie.Need-full-requires
 full_requires c κs = search rules
 
-judged_requires : tie.Need-judged-requires
+judged_requires : tie.Need-judged-verdict-requires
 judged_requires c κs = search rules
 
-enum_known_verdict : tie.Need-enum-known-verdict
+enum_known_verdict : tie.Need-enum_known-verdict
 enum_known_verdict c = search rules
 
 put_requires : tie.Need-put-requires
 put_requires c κs =
-    let verdict_at = c.before.before in
-    let judged_at = verdict_at.before.before in
-    let given = judged_at.before.before.before.before.before.args in
-    let goes = judges judged_at verdict_at.verdict.given.1 in
+    let given = c.args in
+    let goes = judges c.before.before c.in-To.is in
     let said = goes_says (given.self, given.store.now) given.address given.value goes.0 _ goes.1 in
     (said.0, named_word _ _ goes.1, said.1, said.2)
 
-enum_known_verdict_2 : tie.Need-enum-known-verdict-2
+enum_known_verdict_2 : tie.Need-enum_known-verdict-in-Refused-1
 enum_known_verdict_2 c = search rules
 
 unchanged_requires : tie.Need-unchanged-requires
 unchanged_requires c κs = search rules
 
-same_length : tie.Need-same-length
+same_length : tie.Need-shape_of-store
 same_length c = search rules
 
-returns : tie.Need-returns
+returns : tie.Need-returns-in-To
 returns c =
-    let put_at = c.before.before in
-    let verdict_at = put_at.before.before.before in
-    let judged_at = verdict_at.before.before in
-    let given = judged_at.before.before.before.before.before.args in
-    let goes = judges judged_at verdict_at.verdict.given.1 in (
-      ap (λ (after : Chip). (after, ok tt)) put_at.put.ensures.0
+    let given = c.args in
+    let goes = judges c.before.before.before.before.before c.in-To.is in (
+      ap (λ (after : Chip). (after, ok tt)) c.put.ensures.0
           ∙ sym (write_goes (given.self, given.store.now) given.address given.value goes.0 _ goes.1),
-      put_at.put.ensures.1,
+      c.put.ensures.1,
     )
 
-returns_2 : tie.Need-returns-2
+returns_2 : tie.Need-returns-in-Refused
 returns_2 c =
-    let verdict_at = c.before.before in
-    let judged_at = verdict_at.before.before in
-    let given = judged_at.before.before.before.before.before.args in
+    let given = c.args in
     rw c.unchanged.ensures
-    (sym (write_refused (given.self, given.store.now) given.address given.value _ (judges judged_at verdict_at.verdict2.given.1)), tt)
+    (sym (write_refused (given.self, given.store.now) given.address given.value _ (judges c.before.before c.in-Refused.is)), tt)
 
 pub write_change_spec : {M : Type 1} → statement M
 write_change_spec =

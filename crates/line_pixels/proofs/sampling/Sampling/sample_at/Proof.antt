@@ -17,17 +17,16 @@ says start = said_says start.args.depth start.args.self.entry start.requires.0
 used : (start : tie.Start) → start.args.self.bits ≡ (widths_of start.args.self.entry.format).bits
 used start = ap (λ (s : Sampling). s.bits) start.requires.1
 
-pixel_word_requires : tie.Need-pixel-word-requires
-pixel_word_requires c κs = ((says c.before).at_depth, c.before.requires.2)
+pixel_word_requires : tie.Need-pixel_word-pixel-requires
+pixel_word_requires c κs = ((says c.before).at_depth, c.requires.2)
 
 bits_requires : tie.Need-bits-requires
 bits_requires c κs =
-    let start = c.before.before in
-    ((says start).low_lt, omega (arith, used start, bits_le start.args.self.entry.format))
+    ((says c.before.before).low_lt, omega (arith, used c.before.before, bits_le c.args.self.entry.format))
 
 returns : tie.Need-returns
 returns c =
-    (rw (← used c.before.before.before, ← c.before.pixel-word.ensures) c.bits.ensures.0, c.bits.ensures.1)
+    (rw (← used c.before.before.before, ← c.pixel_word-pixel.ensures) c.bits.ensures.0, c.bits.ensures.1)
 
 pub sample_at_spec : {M : Type 1} → statement M
 sample_at_spec = tie.close (tie.spec pixel_word_requires bits_requires returns)

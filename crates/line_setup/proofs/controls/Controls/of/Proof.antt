@@ -4,19 +4,19 @@ use Rattle.line_setup.specs.Controls.{controls_of}
 use Rattle.line_setup.proofs.controls.Controls.of.Statement.{statement}
 use Rattle.line_setup.proofs.controls.Controls.of.Tie as tie
 
-array_read_switches : tie.Need-array-read-switches
+array_read_switches : tie.Need-bounds-control-0
 array_read_switches c = search rules
 
-array_read_total : tie.Need-array-read-total
+array_read_total : tie.Need-bounds-control-1
 array_read_total c = search rules
 
-array_read_origin : tie.Need-array-read-origin
+array_read_origin : tie.Need-bounds-control-6
 array_read_origin c = search rules
 
-array_read_active : tie.Need-array-read-active
+array_read_active : tie.Need-bounds-control-7
 array_read_active c = search rules
 
-array_read_cursor : tie.Need-array-read-cursor
+array_read_cursor : tie.Need-bounds-control-8
 array_read_cursor c = search rules
 
 switch_requires : tie.Need-switch-requires
@@ -61,32 +61,21 @@ field_requires_4 c κs = search rules
 returns : tie.Need-returns
 unfolding controls_of
 returns c =
-    let cx = c.before in
-    let height = cx.before in
-    let width = height.before in
-    let top = width.before in
-    let left = top.before in
-    let lines = left.before in
-    let columns = lines.before in
-    let depth = columns.before in
-    let crosshair = depth.before in
-    let cursor = crosshair.before in
-    let ids = cursor.before in
     λ i.
     record {
-      overlay = ids.before.switch.ensures i;
-      ids = ids.switch2.ensures i;
-      cursor = cursor.switch3.ensures i;
-      crosshair = crosshair.switch4.ensures i;
-      depth = depth.depth.ensures i;
-      columns = columns.size.ensures i;
-      lines = lines.size2.ensures i;
-      left = left.field.ensures.0 i;
-      top = top.field2.ensures.0 i;
-      width = width.size3.ensures i;
-      height = height.size4.ensures i;
-      cx = cx.field3.ensures.0 i;
-      cy = c.field4.ensures.0 i;
+      overlay = c.switch.ensures i;
+      ids = c.switch-2.ensures i;
+      cursor = c.switch-3.ensures i;
+      crosshair = c.switch-4.ensures i;
+      depth = c.depth.ensures i;
+      columns = c.size.ensures i;
+      lines = c.size-2.ensures i;
+      left = c.field.ensures.0 i;
+      top = c.field-2.ensures.0 i;
+      width = c.size-3.ensures i;
+      height = c.size-4.ensures i;
+      cx = c.field-3.ensures.0 i;
+      cy = c.field-4.ensures.0 i;
     }
 
 pub of_spec : {M : Type 1} → statement M

@@ -1,0 +1,6 @@
+-- The number falls.
+use Rattle.session_listing.proofs.put.+put_number.Given as goal
+
+-- the number itself
+abbrev pub decreases-put_number : goal.decreases-put_number
+decreases-put_number l = l.number
