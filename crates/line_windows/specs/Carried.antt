@@ -1,13 +1,10 @@
 -- The look-up as a line makes it: it may go on from an entry, and says how far its answer holds.
-use Rattle.std.specs.Prelude.{ℕ, ◌+◌, ◌<◌}
-use Rattle.rules.specs.Rule.{Rule, done, get, ◌>>=◌, Outcome, ok, refused}
+use Rattle.std.specs.Prelude.{ℕ, ◌+◌}
+use Rattle.rules.specs.Rule.{Rule, done, get, ◌>>=◌}
 use Rattle.rules.specs.Faults.{Numbered}
-use Rattle.refusals.specs.Refusal.{numbered}
 use Rattle.line_windows.specs.Table.{TableCell}
 use Rattle.line_windows.specs.Ids.{end_of, id_cell, line_entry_from}
 use Rattle.line_windows.specs.declared.ids.FoundId.{FoundId}
-use Rattle.line_windows.specs.declared.ids.LookedUp.{LookedUp}
-use Rattle.line_windows.specs.declared.ids.LookedUp.TheVariants.{Id, Refused}
 
 -- what the first entry, from entry `from` on, with xend ≥ x serves: its ID, its last pixel, and the entry to go on from after that (CHIP 4.7)
 unfoldable pub found_from : ℕ → ℕ → ℕ → ℕ → Rule Numbered TableCell FoundId
@@ -16,13 +13,3 @@ found_from table_bytes start from x = do
   last ← get (end_of start entry)
   id ← get (id_cell start entry)
   done (record { id = id; last = last; next = entry + 1 })
-
--- what the look-up's answer says: what was found, or a refusal's number and values (CHIP 4.9)
-abbrev pub look_up_outcome : LookedUp → Outcome Numbered FoundId
-look_up_outcome (Id found) = ok found
-look_up_outcome (Refused refusal) = refused (numbered refusal)
-
--- an ID is one of 32
-abbrev pub id_below : LookedUp → Type 0
-id_below (Id found) = found.id < 32
-id_below (Refused refusal) = Unit {0}

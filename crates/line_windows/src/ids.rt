@@ -1,15 +1,16 @@
 // Line entries: which ID a pixel has.
-ghost use Rattle.std.specs.Prelude.{◌≡◌, length};
+ghost use Rattle.std.specs.Prelude.{◌<◌, ◌≡◌, length, IfOk};
 ghost use Rattle.rules.specs.Rule.{run};
+ghost use Rattle.refusals.specs.Refusal.{outcome_of};
 ghost use Rattle.line_windows.specs.Table.{table_view};
 ghost use Rattle.line_windows.specs.Ids.{line_entries};
-ghost use Rattle.line_windows.specs.Carried.{look_up_outcome, id_below, found_from};
+ghost use Rattle.line_windows.specs.Carried.{found_from};
 
 use crate::{BLOCK_BYTES, LINE_ENTRY_BYTES};
 use refusals::Refusal;
 
 // What a line entry serves.
-#[derive(Drop)]
+#[derive(Clone, Copy)]
 pub struct FoundId {
     // The ID that it gives its pixels.
     pub id: u32,
@@ -19,48 +20,30 @@ pub struct FoundId {
     pub next: usize,
 }
 
-// A pixel's ID with what its entry serves, or the refusal.
-#[derive(Drop)]
-pub enum LookedUp {
-    // The entry that serves the pixel says its ID.
-    Id(FoundId),
-    // No line entry serves the pixel.
-    Refused(Refusal),
-}
-
 // How many whole line entries there are from byte `start` on, in a table of so many bytes: to the end of the block or of the table.
 fn line_entries(bytes: usize, start: usize) -> usize
     ensures { result ≡ line_entries bytes start }
 {
-    if bytes <= start {
-        return 0;
-    }
     let in_block = BLOCK_BYTES - start % BLOCK_BYTES;
-    let in_table = bytes - start;
-    if in_block < in_table {
-        in_block / LINE_ENTRY_BYTES
-    } else {
-        in_table / LINE_ENTRY_BYTES
-    }
+    let in_table = bytes.saturating_sub(start);
+    in_block.min(in_table) / LINE_ENTRY_BYTES
 }
 
 // The ID of pixel x in the line table at byte `start`: the first line entry, from entry `from` on, that ends there or later says.
-pub fn look_up(table: &[u8], start: usize, from: usize, x: u32) -> LookedUp
-    ensures { (look_up_outcome result ≡ run (table_view table.now) (found_from (length table.now) start from x)) × id_below result }
+pub fn look_up(table: &[u8], start: usize, from: usize, x: u32) -> Result<FoundId, Refusal>
+    ensures says { outcome_of result ≡ run (table_view table.now) (found_from (length table.now) start from x) }
+    ensures below { IfOk result (λ found. found.id < 32) }
 {
-    let count = line_entries(table.len(), start);
-    let mut entry = from;
-    while entry < count {
+    for entry in from..line_entries(table.len(), start) {
         let word = words::be16(table, start + LINE_ENTRY_BYTES * entry);
         let xend = words::field(word, 15, 5);
         if x <= xend {
-            return LookedUp::Id(FoundId {
+            return Ok(FoundId {
                 id: words::field(word, 4, 0),
                 last: xend,
                 next: entry + 1,
             });
         }
-        entry += 1;
     }
-    LookedUp::Refused(Refusal::NoLineEntry(x))
+    Err(Refusal::NoLineEntry(x))
 }
