@@ -9,7 +9,7 @@ use Rattle.rules.proofs.Cases.{impossible}
 use Rattle.line_formats.specs.Table.{format_of_number, format_row, part_at, has_depth, has_buffer, has_bank}
 use Rattle.line_formats.specs.declared.Format.{Format}
 use Rattle.line_formats.specs.declared.Format.TheVariants.{Index8, Index12, Rgb332, Rgb444, Rgb555, Rgb888}
-use Rattle.line_formats.specs.declared.NamedFormat.TheVariants.{Is}
+use Rattle.std.specs.Prelude.{Some}
 use Rattle.line_formats.specs.declared.Part.TheVariants.{Half, Whole, Unlisted}
 
 -- the table lists this number of a format at this depth with this buffer and, for format 0, this bank
@@ -24,7 +24,7 @@ pub data FormatListed (number depth buffer bank : ℕ) : Type 0 where
 -- a number names a format, and the format has the depth, the buffer and the bank
 pub record FormatHas (number depth buffer bank : ℕ) : Type 0 where
   pub format : Format
-  pub named : format_of_number number ≡ Is format
+  pub named : format_of_number number ≡ Some format
   pub at_depth : has_depth (part_at format depth) ≡ true
   pub in_buffer : has_buffer (part_at format depth) buffer ≡ true
   pub in_bank : has_bank format bank ≡ true
@@ -39,7 +39,7 @@ number_of Rgb555 = 4
 number_of Rgb888 = 5
 
 -- a number that names a format is the format's
-pub named_number : (number : ℕ) {format : Format} → format_of_number number ≡ Is format → number ≡ number_of format
+pub named_number : (number : ℕ) {format : Format} → format_of_number number ≡ Some format → number ≡ number_of format
 named_number zero {format} e = let same : Index8 ≡ format = cc in ap number_of same
 named_number (suc zero) {format} e = let same : Index12 ≡ format = cc in ap number_of same
 named_number (suc (suc zero)) {format} e = let same : Rgb332 ≡ format = cc in ap number_of same

@@ -3,10 +3,14 @@ use Rattle.rules.specs.Unique.{OneAnswer}
 use Rattle.rules.proofs.Unique.{by_equation}
 use Rattle.line_formats.proofs.Index8.map_entry.Reads as index8_map_entry
 use Rattle.line_formats.proofs.Index12.map_entry.Reads as index12_map_entry
-use Rattle.line_formats.proofs.Rgb332.colour.Reads as rgb332_colour
-use Rattle.line_formats.proofs.Rgb444.colour.Reads as rgb444_colour
-use Rattle.line_formats.proofs.Rgb555.colour.Reads as rgb555_colour
-use Rattle.line_formats.proofs.Rgb888.colour.Reads as rgb888_colour
+use Rattle.line_formats.proofs.Rgb332RgbFormat.colour.Reads as rgb332_colour
+use Rattle.line_formats.proofs.Rgb444RgbFormat.colour.Reads as rgb444_colour
+use Rattle.line_formats.proofs.Rgb555RgbFormat.colour.Reads as rgb555_colour
+use Rattle.line_formats.proofs.Rgb888RgbFormat.colour.Reads as rgb888_colour
+use Rattle.line_formats.proofs.Rgb332RgbFormat.widths.Reads as rgb332_widths
+use Rattle.line_formats.proofs.Rgb444RgbFormat.widths.Reads as rgb444_widths
+use Rattle.line_formats.proofs.Rgb555RgbFormat.widths.Reads as rgb555_widths
+use Rattle.line_formats.proofs.Rgb888RgbFormat.widths.Reads as rgb888_widths
 use Rattle.line_formats.proofs.Part.has_depth.Reads as has_depth
 use Rattle.line_formats.proofs.Part.has_buffer.Reads as has_buffer
 use Rattle.line_formats.proofs.Format.from_number.Reads as from_number
@@ -40,6 +44,22 @@ rgb555_colour_unique = by_equation _ _
 -- a sample of RGB 8-8-8 has one colour
 pub rgb888_colour_unique : OneAnswer rgb888_colour.Post
 rgb888_colour_unique = by_equation _ _
+
+-- the bits of RGB 3-3-2 are pinned
+pub rgb332_widths_unique : OneAnswer rgb332_widths.Post
+rgb332_widths_unique = by_equation _ _
+
+-- the bits of RGB 4-4-4 are pinned
+pub rgb444_widths_unique : OneAnswer rgb444_widths.Post
+rgb444_widths_unique = by_equation _ _
+
+-- the bits of RGB 5-5-5 are pinned
+pub rgb555_widths_unique : OneAnswer rgb555_widths.Post
+rgb555_widths_unique = by_equation _ _
+
+-- the bits of RGB 8-8-8 are pinned
+pub rgb888_widths_unique : OneAnswer rgb888_widths.Post
+rgb888_widths_unique = by_equation _ _
 
 -- whether a format has a depth has one answer
 pub has_depth_unique : OneAnswer has_depth.Post

@@ -1,23 +1,21 @@
 -- The table of pixel formats.
-use Rattle.std.specs.Prelude.{ℕ, ◌+◌, ◌*◌, Bool, true, false, cond, List, [], ◌∷◌, eqb, leb, get_or}
+use Rattle.std.specs.Prelude.{ℕ, ◌+◌, ◌*◌, ◌≤◌, ◌≡◌, Bool, true, false, cond, List, [], ◌∷◌, Option, Some, None, eqb, leb, get_or}
 use Rattle.words.specs.Field.{bits}
 use Rattle.words.specs.declared.Rgb.{Rgb}
 use Rattle.line_formats.specs.Channel.{colour_by_widths}
 use Rattle.line_formats.specs.declared.Format.{Format}
 use Rattle.line_formats.specs.declared.Format.TheVariants.{Index8, Index12, Rgb332, Rgb444, Rgb555, Rgb888}
-use Rattle.line_formats.specs.declared.NamedFormat.{NamedFormat}
-use Rattle.line_formats.specs.declared.NamedFormat.TheVariants.{Is, Undefined}
 use Rattle.line_formats.specs.declared.Part.{Part}
 use Rattle.line_formats.specs.declared.Part.TheVariants.{Half, Whole, Unlisted}
 use Rattle.line_formats.specs.declared.Widths.{Widths}
 
 -- the formats in the order of their numbers (CHIP 5.2)
-abbrev pub formats : List NamedFormat
-formats = Is Index8 ∷ Is Index12 ∷ Is Rgb332 ∷ Is Rgb444 ∷ Is Rgb555 ∷ Is Rgb888 ∷ []
+abbrev pub formats : List (Option Format)
+formats = Some Index8 ∷ Some Index12 ∷ Some Rgb332 ∷ Some Rgb444 ∷ Some Rgb555 ∷ Some Rgb888 ∷ []
 
 -- the format that a number names; a number past the last format names none (CHIP 5.2, 5.4)
-abbrev pub format_of_number : ℕ → NamedFormat
-format_of_number number = get_or formats number Undefined
+abbrev pub format_of_number : ℕ → Option Format
+format_of_number number = get_or formats number None
 
 -- a row of the table: the bits of a sample and of each channel, and what of a pixel is used at depth 16 and at depth 32 (CHIP 5.2)
 pub record Row : Type 0 where
@@ -79,3 +77,10 @@ entry_in_bank bank value = 256 * bank + value
 -- the colour of a sample with channels (CHIP 5.6)
 abbrev pub colour_in_format : Format → ℕ → Rgb
 colour_in_format format sample = colour_by_widths sample (widths_of format).red (widths_of format).green (widths_of format).blue
+
+-- a format has three channels of so many bits, each of 1 to 8, and no other bits (CHIP 5.2, 5.6)
+pub record IsRgb (format : Format) (red green blue : ℕ) : Type 0 where
+  pub bits : widths_of format ≡ record { bits = red + green + blue; red = red; green = green; blue = blue }
+  pub red_fits : (1 ≤ red) × (red ≤ 8)
+  pub green_fits : (1 ≤ green) × (green ≤ 8)
+  pub blue_fits : (1 ≤ blue) × (blue ≤ 8)

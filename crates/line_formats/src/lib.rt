@@ -3,23 +3,20 @@
 
 mod channel;
 
-ghost use Rattle.std.specs.Prelude.{◌≡◌};
-ghost use Rattle.line_formats.specs.Table.{format_of_number, widths_of, part_at, has_depth, has_buffer, has_bank, value_of, entry_in_bank, colour_in_format};
+ghost use Rattle.std.specs.Prelude.{ℕ, ◌≡◌};
+ghost use Rattle.std.proofs.Common.{rules};
+ghost use Rattle.line_formats.specs.Table.{format_of_number, widths_of, part_at, has_depth, has_buffer, has_bank, value_of, entry_in_bank, colour_in_format, IsRgb};
+ghost use Rattle.line_formats.specs.declared.Format.{Format};
+ghost use Rattle.line_formats.specs.declared.Format.TheVariants.{Rgb332 as Format332, Rgb444 as Format444, Rgb555 as Format555, Rgb888 as Format888};
 
 use words::Rgb;
 
 // Format 0: an 8-bit index within a bank of the map.
-#[derive(Drop)]
+#[derive(Clone, Copy)]
 pub struct Index8;
 
 impl Index8 {
     pub const BITS: u32 = 8;
-
-    pub const RED: u32 = 0;
-
-    pub const GREEN: u32 = 0;
-
-    pub const BLUE: u32 = 0;
 
     // The entries of a bank.
     pub const BANK_ENTRIES: u32 = 256;
@@ -31,22 +28,16 @@ impl Index8 {
     pub fn map_entry(bank: u8, sample: u32) -> u32
         ensures { result ≡ entry_in_bank bank (value_of Format.Index8 sample) }
     {
-        Self::BANK_ENTRIES * (bank as u32) + words::bits(sample, 0, Self::BITS)
+        Self::BANK_ENTRIES * u32::from(bank) + words::bits(sample, 0, Self::BITS)
     }
 }
 
 // Format 1: a 12-bit index of the map.
-#[derive(Drop)]
+#[derive(Clone, Copy)]
 pub struct Index12;
 
 impl Index12 {
     pub const BITS: u32 = 12;
-
-    pub const RED: u32 = 0;
-
-    pub const GREEN: u32 = 0;
-
-    pub const BLUE: u32 = 0;
 
     // The map entry of a sample.
     pub fn map_entry(sample: u32) -> u32
@@ -56,92 +47,139 @@ impl Index12 {
     }
 }
 
-// Format 2: RGB 3-3-2.
-#[derive(Drop)]
-pub struct Rgb332;
+// A format whose samples have three channels: red lowest, green above it, and blue above that.
+pub trait RgbFormat {
+    // Which format of the table it is.
+    ghost format: { Format };
 
-impl Rgb332 {
-    pub const BITS: u32 = 8;
+    // The bits of its red.
+    const RED: u32;
 
-    pub const RED: u32 = 3;
+    // The bits of its green.
+    const GREEN: u32;
 
-    pub const GREEN: u32 = 3;
+    // The bits of its blue.
+    const BLUE: u32;
 
-    pub const BLUE: u32 = 2;
+    ghost RED: { ℕ };
+
+    ghost GREEN: { ℕ };
+
+    ghost BLUE: { ℕ };
+
+    // The bits of a sample and of its channels.
+    fn widths() -> Widths
+        ensures { result ≡ widths_of format }
+    {
+        Widths {
+            bits: Self::RED + Self::GREEN + Self::BLUE,
+            red: Self::RED,
+            green: Self::GREEN,
+            blue: Self::BLUE,
+        }
+    }
 
     // The colour of a sample.
-    pub fn colour(sample: u32) -> Rgb
-        ensures { result ≡ colour_in_format Format.Rgb332 sample }
+    fn colour(sample: u32) -> Rgb
+        ensures { result ≡ colour_in_format format sample }
     {
         channel::colour(sample, Self::RED, Self::GREEN, Self::BLUE)
     }
+
+    // The table says the same bits, and each channel has 1 to 8 of them.
+    ghost listed: { IsRgb format RED GREEN BLUE };
+}
+
+// Format 2: RGB 3-3-2.
+#[derive(Clone, Copy)]
+pub struct Rgb332;
+
+impl RgbFormat for Rgb332 {
+    ghost format = { Format332 };
+
+    const RED: u32 = 3;
+
+    const GREEN: u32 = 3;
+
+    const BLUE: u32 = 2;
+
+    ghost RED = { 3 };
+
+    ghost GREEN = { 3 };
+
+    ghost BLUE = { 2 };
+
+    ghost listed = { Prim.search rules };
 }
 
 // Format 3: RGB 4-4-4.
-#[derive(Drop)]
+#[derive(Clone, Copy)]
 pub struct Rgb444;
 
-impl Rgb444 {
-    pub const BITS: u32 = 12;
+impl RgbFormat for Rgb444 {
+    ghost format = { Format444 };
 
-    pub const RED: u32 = 4;
+    const RED: u32 = 4;
 
-    pub const GREEN: u32 = 4;
+    const GREEN: u32 = 4;
 
-    pub const BLUE: u32 = 4;
+    const BLUE: u32 = 4;
 
-    // The colour of a sample.
-    pub fn colour(sample: u32) -> Rgb
-        ensures { result ≡ colour_in_format Format.Rgb444 sample }
-    {
-        channel::colour(sample, Self::RED, Self::GREEN, Self::BLUE)
-    }
+    ghost RED = { 4 };
+
+    ghost GREEN = { 4 };
+
+    ghost BLUE = { 4 };
+
+    ghost listed = { Prim.search rules };
 }
 
 // Format 4: RGB 5-5-5.
-#[derive(Drop)]
+#[derive(Clone, Copy)]
 pub struct Rgb555;
 
-impl Rgb555 {
-    pub const BITS: u32 = 15;
+impl RgbFormat for Rgb555 {
+    ghost format = { Format555 };
 
-    pub const RED: u32 = 5;
+    const RED: u32 = 5;
 
-    pub const GREEN: u32 = 5;
+    const GREEN: u32 = 5;
 
-    pub const BLUE: u32 = 5;
+    const BLUE: u32 = 5;
 
-    // The colour of a sample.
-    pub fn colour(sample: u32) -> Rgb
-        ensures { result ≡ colour_in_format Format.Rgb555 sample }
-    {
-        channel::colour(sample, Self::RED, Self::GREEN, Self::BLUE)
-    }
+    ghost RED = { 5 };
+
+    ghost GREEN = { 5 };
+
+    ghost BLUE = { 5 };
+
+    ghost listed = { Prim.search rules };
 }
 
 // Format 5: RGB 8-8-8.
-#[derive(Drop)]
+#[derive(Clone, Copy)]
 pub struct Rgb888;
 
-impl Rgb888 {
-    pub const BITS: u32 = 24;
+impl RgbFormat for Rgb888 {
+    ghost format = { Format888 };
 
-    pub const RED: u32 = 8;
+    const RED: u32 = 8;
 
-    pub const GREEN: u32 = 8;
+    const GREEN: u32 = 8;
 
-    pub const BLUE: u32 = 8;
+    const BLUE: u32 = 8;
 
-    // The colour of a sample.
-    pub fn colour(sample: u32) -> Rgb
-        ensures { result ≡ colour_in_format Format.Rgb888 sample }
-    {
-        channel::colour(sample, Self::RED, Self::GREEN, Self::BLUE)
-    }
+    ghost RED = { 8 };
+
+    ghost GREEN = { 8 };
+
+    ghost BLUE = { 8 };
+
+    ghost listed = { Prim.search rules };
 }
 
 // The bits of a format; an index has channels of 0 bits.
-#[derive(Drop)]
+#[derive(Clone, Copy)]
 pub struct Widths {
     // The bits of a sample.
     pub bits: u32,
@@ -151,6 +189,18 @@ pub struct Widths {
     pub green: u32,
     // The bits of its blue, above green.
     pub blue: u32,
+}
+
+// The bits of an index of so many.
+fn index_of(bits: u32) -> Widths
+    ensures { result ≡ record { bits = bits; red = 0; green = 0; blue = 0 } }
+{
+    Widths {
+        bits,
+        red: 0,
+        green: 0,
+        blue: 0,
+    }
 }
 
 // How much of a pixel a format uses at a depth.
@@ -205,28 +255,19 @@ pub enum Format {
     Rgb888,
 }
 
-// What a format's number names.
-#[derive(Drop)]
-pub enum NamedFormat {
-    // One of the six formats.
-    Is(Format),
-    // No format: the number is above 5.
-    Undefined,
-}
-
 impl Format {
-    // The format of an entry's number.
-    pub fn from_number(number: u32) -> NamedFormat
+    // The format of an entry's number; a number above 5 names none.
+    pub fn from_number(number: u32) -> Option<Self>
         ensures { result ≡ format_of_number number }
     {
         match number {
-            0 => NamedFormat::Is(Format::Index8),
-            1 => NamedFormat::Is(Format::Index12),
-            2 => NamedFormat::Is(Format::Rgb332),
-            3 => NamedFormat::Is(Format::Rgb444),
-            4 => NamedFormat::Is(Format::Rgb555),
-            5 => NamedFormat::Is(Format::Rgb888),
-            _ => NamedFormat::Undefined,
+            0 => Some(Format::Index8),
+            1 => Some(Format::Index12),
+            2 => Some(Format::Rgb332),
+            3 => Some(Format::Rgb444),
+            4 => Some(Format::Rgb555),
+            5 => Some(Format::Rgb888),
+            _ => None,
         }
     }
 
@@ -235,42 +276,12 @@ impl Format {
         ensures { result ≡ widths_of self }
     {
         match self {
-            Format::Index8 => Widths {
-                bits: Index8::BITS,
-                red: Index8::RED,
-                green: Index8::GREEN,
-                blue: Index8::BLUE,
-            },
-            Format::Index12 => Widths {
-                bits: Index12::BITS,
-                red: Index12::RED,
-                green: Index12::GREEN,
-                blue: Index12::BLUE,
-            },
-            Format::Rgb332 => Widths {
-                bits: Rgb332::BITS,
-                red: Rgb332::RED,
-                green: Rgb332::GREEN,
-                blue: Rgb332::BLUE,
-            },
-            Format::Rgb444 => Widths {
-                bits: Rgb444::BITS,
-                red: Rgb444::RED,
-                green: Rgb444::GREEN,
-                blue: Rgb444::BLUE,
-            },
-            Format::Rgb555 => Widths {
-                bits: Rgb555::BITS,
-                red: Rgb555::RED,
-                green: Rgb555::GREEN,
-                blue: Rgb555::BLUE,
-            },
-            Format::Rgb888 => Widths {
-                bits: Rgb888::BITS,
-                red: Rgb888::RED,
-                green: Rgb888::GREEN,
-                blue: Rgb888::BLUE,
-            },
+            Format::Index8 => index_of(Index8::BITS),
+            Format::Index12 => index_of(Index12::BITS),
+            Format::Rgb332 => Rgb332::widths(),
+            Format::Rgb444 => Rgb444::widths(),
+            Format::Rgb555 => Rgb555::widths(),
+            Format::Rgb888 => Rgb888::widths(),
         }
     }
 
