@@ -18,7 +18,7 @@ use Rattle.line_formats.proofs.FormatListed.{depths}
 use Rattle.line_colour.specs.Entry.{low_of, decoded}
 use Rattle.line_colour.specs.Shown.{shown_as, shown_of}
 use Rattle.line_colour.specs.declared.entry.WindowEntry.{WindowEntry}
-use Rattle.line_colour.specs.declared.entry.Decoded.TheVariants.{Defined}
+use Rattle.std.specs.Prelude.{Some}
 use Rattle.line_colour.specs.declared.entry.Shown.TheVariants.{MapEntry}
 use Rattle.line_colour.proofs.Decode.{defined_passed}
 
@@ -67,7 +67,7 @@ module _ (depth buffer : ℕ) where
       within_by bits (leb bits (depth / 2)) (leb bits depth) refl refl (rw (part_fitting format depth at) at e)
 
 -- what the decoder answers as a defined entry fits its depth
-pub defined_says : (number depth : ℕ) {entry : WindowEntry} → decoded number depth ≡ Defined entry → Says depth entry
+pub defined_says : (number depth : ℕ) {entry : WindowEntry} → decoded number depth ≡ Some entry → Says depth entry
 defined_says number depth e =
     let passed = defined_passed number depth e in
     let format = passed.has.format in

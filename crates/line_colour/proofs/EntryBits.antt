@@ -12,8 +12,7 @@ use Rattle.line_formats.proofs.Samples.{index_8_in_numbers, index_12_in_numbers,
 use Rattle.line_colour.specs.Entry.{decoded, is_defined}
 use Rattle.line_colour.specs.Shown.{shown_of}
 use Rattle.line_colour.specs.declared.entry.WindowEntry.{WindowEntry}
-use Rattle.line_colour.specs.declared.entry.Decoded.{Decoded}
-use Rattle.line_colour.specs.declared.entry.Decoded.TheVariants.{Defined, Undefined}
+use Rattle.std.specs.Prelude.{Option, Some, None}
 use Rattle.line_colour.specs.declared.entry.Shown.TheVariants.{MapEntry, Colour}
 use Rattle.line_colour.proofs.Decode.{decoded_defined, defined_passed}
 
@@ -45,7 +44,7 @@ module _ (word depth : ℕ) where
       let has = listed_has (subst (λ (buffer : ℕ). FormatListed (word / 2 % 8) depth buffer (word / 16 % 32)) (sym bit_0) bits.listed) in
       ap is_defined (sym (decoded_defined word depth bits.spare has.named (sym has.at_depth) (sym has.in_buffer) (sym has.in_bank)))
 
-  module _ {entry : WindowEntry} (defined : decoded word depth ≡ Defined entry) where
+  module _ {entry : WindowEntry} (defined : decoded word depth ≡ Some entry) where
     -- what the decoder answers as defined has these bits
     pub entry_bits : DefinedBits word depth
     entry_bits =
@@ -77,9 +76,9 @@ module _ (word depth : ℕ) where
   defined_bits is = by (decoded word depth) refl is
     where
       -- an undefined entry is not defined
-      by : (answer : Decoded) → decoded word depth ≡ answer → is_defined answer ≡ true → DefinedBits word depth
-      by (Defined entry) e is = entry_bits e
-      by Undefined e is = impossible (cc)
+      by : (answer : Option WindowEntry) → decoded word depth ≡ answer → is_defined answer ≡ true → DefinedBits word depth
+      by (Some entry) e is = entry_bits e
+      by None e is = impossible (cc)
 
 -- ---- what a sample shows
 

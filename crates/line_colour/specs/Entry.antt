@@ -3,11 +3,8 @@ use Rattle.std.specs.Prelude.{ℕ, ◌/◌, Bool, true, false, cond, not, eqb}
 use Rattle.words.specs.Field.{field}
 use Rattle.line_formats.specs.Table.{format_of_number, part_at, has_depth, has_buffer, has_bank}
 use Rattle.line_formats.specs.declared.Format.{Format}
-use Rattle.line_formats.specs.declared.NamedFormat.{NamedFormat}
-use Rattle.line_formats.specs.declared.NamedFormat.TheVariants.{Is, Undefined as NoFormat}
+use Rattle.std.specs.Prelude.{Option, Some, None}
 use Rattle.line_colour.specs.declared.entry.WindowEntry.{WindowEntry}
-use Rattle.line_colour.specs.declared.entry.Decoded.{Decoded}
-use Rattle.line_colour.specs.declared.entry.Decoded.TheVariants.{Defined, Undefined}
 
 -- the buffer of an entry (CHIP 5.1)
 abbrev pub buffer_of : ℕ → ℕ
@@ -41,21 +38,21 @@ defined_as entry depth format =
     }
 
 -- what follows from the format that a number names (CHIP 5.4)
-abbrev pub with_format : NamedFormat → (Format → Decoded) → Decoded
-with_format NoFormat next = Undefined
-with_format (Is format) next = next format
+abbrev pub with_format : Option Format → (Format → Option WindowEntry) → Option WindowEntry
+with_format None next = None
+with_format (Some format) next = next format
 
 -- an entry is tested for its spare bits, its format, its depth, its buffer and its bank, in this order (CHIP 5.2, 5.4)
-unfoldable pub decoded : ℕ → ℕ → Decoded
+unfoldable pub decoded : ℕ → ℕ → Option WindowEntry
 decoded entry depth =
-    cond (not (eqb (spare_of entry) 0)) Undefined
+    cond (not (eqb (spare_of entry) 0)) None
     (with_format (format_of_number (format_of entry)) (λ format.
-    cond (not (has_depth (part_at format depth))) Undefined
-    (cond (not (has_buffer (part_at format depth) (buffer_of entry))) Undefined
-    (cond (not (has_bank format (bank_of entry))) Undefined
-    (Defined (defined_as entry depth format))))))
+    cond (not (has_depth (part_at format depth))) None
+    (cond (not (has_buffer (part_at format depth) (buffer_of entry))) None
+    (cond (not (has_bank format (bank_of entry))) None
+    (Some (defined_as entry depth format))))))
 
 -- whether what the decoder answers is a defined entry (CHIP 5.4)
-unfoldable pub is_defined : Decoded → Bool
-is_defined (Defined entry) = true
-is_defined Undefined = false
+unfoldable pub is_defined : Option WindowEntry → Bool
+is_defined (Some entry) = true
+is_defined None = false

@@ -4,7 +4,7 @@ ghost use Rattle.line_formats.specs.Table.{format_of_number};
 ghost use Rattle.line_colour.specs.Entry.{format_of, low_of, defined_as, decoded};
 ghost use Rattle.line_colour.specs.Shown.{shown_of};
 
-use line_formats::{Format, Index8, Index12, NamedFormat, Rgb332, Rgb444, Rgb555, Rgb888};
+use line_formats::{Format, Index8, Index12, Rgb332, Rgb444, Rgb555, Rgb888, RgbFormat};
 use words::Rgb;
 
 // What a defined entry says.
@@ -22,17 +22,8 @@ pub struct WindowEntry {
     pub overlay: bool,
 }
 
-// What an entry says, or that it is undefined.
-#[derive(Drop)]
-pub enum Decoded {
-    // Every test is passed: what the entry says.
-    Defined(WindowEntry),
-    // A spare bit is set, or the format, depth, buffer or bank isn't listed.
-    Undefined,
-}
-
 // What a sample shows.
-#[derive(Drop)]
+#[derive(Clone, Copy)]
 pub enum Shown {
     // The entry of the colour map with this number.
     MapEntry(u32),
@@ -48,36 +39,35 @@ fn low_bit(depth: u32, buffer: u32) -> u32
 }
 
 // The format that an entry names, if any, whether the entry is defined or not.
-pub fn format_of(entry: u32) -> NamedFormat
+pub fn format_of(entry: u32) -> Option<Format>
     ensures { result ≡ format_of_number (format_of entry) }
 {
     Format::from_number(words::field(entry, 3, 1))
 }
 
-// What an entry says at a depth.
-pub fn decode(entry: u32, depth: u32) -> Decoded
+// What an entry says at a depth; none where a spare bit is set, or the format, depth, buffer or bank isn't listed.
+#[tactic(auto, unfolding(crate::specs::Entry::decoded))]
+pub fn decode(entry: u32, depth: u32) -> Option<WindowEntry>
     ensures { result ≡ decoded entry depth }
 {
     let buffer = words::field(entry, 0, 0);
     let bank = words::field(entry, 8, 4);
     let spare = words::field(entry, 12, 11);
     if spare != 0 {
-        return Decoded::Undefined;
+        return None;
     }
-    let NamedFormat::Is(format) = format_of(entry) else {
-        return Decoded::Undefined;
-    };
+    let format = format_of(entry)?;
     let part = format.part(depth);
     if !part.has_depth() {
-        return Decoded::Undefined;
+        return None;
     }
     if !part.has_buffer(buffer) {
-        return Decoded::Undefined;
+        return None;
     }
     if !format.has_bank(bank) {
-        return Decoded::Undefined;
+        return None;
     }
-    Decoded::Defined(WindowEntry::of(format, entry, depth))
+    Some(WindowEntry::of(format, entry, depth))
 }
 
 impl WindowEntry {
