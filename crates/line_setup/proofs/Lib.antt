@@ -1,5 +1,3 @@
-pub mod Numbers
-pub mod Lengths
 pub mod Fitted
 pub mod KeptFields
 pub mod ControlFields

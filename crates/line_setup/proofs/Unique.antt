@@ -3,7 +3,7 @@ use mathlib.Core.Path.{sym, ◌∙◌}
 use Rattle.rules.specs.Unique.{OneAnswer}
 use Rattle.rules.proofs.Unique.{by_equation}
 use Rattle.refusals.proofs.Known.{answer_known}
-use Rattle.line_setup.proofs.controls.Controls.of.Reads as of
+use Rattle.line_setup.proofs.controls.ControlsFromArrayU329.from.Reads as of
 use Rattle.line_setup.proofs.setup.Setup.line_check.Reads as line_check
 
 -- what control words say

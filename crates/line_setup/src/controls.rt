@@ -35,6 +35,7 @@ pub struct Controls {
 }
 
 // A switch of control word 0.
+#[tactic(auto, unfolding(crate::specs::Controls::switch))]
 fn switch(word: u32, bit: u32) -> bool
     requires { bit < 32 }
     ensures { result ≡ switch word bit }
@@ -43,6 +44,7 @@ fn switch(word: u32, bit: u32) -> bool
 }
 
 // The depth.
+#[tactic(auto, unfolding(crate::specs::Controls::depth_of))]
 fn depth(word: u32) -> u32
     ensures { result ≡ depth_of word }
 {
@@ -57,9 +59,12 @@ fn size(word: u32, high: u32, low: u32) -> u32
     words::field(word, high, low) + 1
 }
 
-impl Controls {
+impl From<[u32; 9]> for Controls {
+    ghost from_gives = { λ control says. says ≡ controls_of control };
+
     // What nine control words say.
-    pub fn of(control: [u32; 9]) -> Self
+    #[tactic(auto, unfolding(crate::specs::Controls::controls_of))]
+    fn from(control: [u32; 9]) -> Self
         ensures { result ≡ controls_of control }
     {
         let switches = control[0];

@@ -1,32 +1,27 @@
 // What a line is refused for before anything is read.
 ghost use Rattle.std.specs.Prelude.{◌+◌, ◌≡◌, ltb};
 ghost use Rattle.rules.specs.Checked.{verdict};
-ghost use Rattle.refusals.specs.Refusal.{answer_outcome};
+ghost use Rattle.refusals.specs.Refusal.{outcome_of};
 ghost use Rattle.line_setup.specs.Faults.{above_total, normal_length, table_too_long, overlay_wrong, length_faults, line_faults};
 
 use crate::controls::Controls;
 use crate::setup::Setup;
-use refusals::{Answer, Refusal};
+use refusals::Refusal;
 
 // Whether an origin and a size go beyond a total.
 fn beyond(total: u32, origin: u32, size: u32) -> bool
     ensures { result ≡ ltb total (origin + size) }
 {
-    if total < size {
-        return true;
-    }
-    total - size < origin
+    total < size || total - size < origin
 }
 
 impl Controls {
     // Whether the picture is wider or higher than what the total leaves behind its origin.
+    #[tactic(auto, unfolding(crate::specs::Faults::above_total))]
     fn above_total(self) -> bool
         ensures { result ≡ above_total self }
     {
-        if beyond(self.columns, self.left, self.width) {
-            return true;
-        }
-        beyond(self.lines, self.top, self.height)
+        beyond(self.columns, self.left, self.width) || beyond(self.lines, self.top, self.height)
     }
 
     // The bytes of a normal row.
@@ -39,61 +34,59 @@ impl Controls {
 
 impl Setup {
     // Whether the table is too long, where it is looked at.
+    #[tactic(auto, unfolding(crate::specs::Faults::table_too_long))]
     fn table_too_long(self) -> bool
         ensures { result ≡ table_too_long self }
     {
-        if self.controls.ids {
-            return line_windows::MOST_TABLE_BYTES < self.lengths.table;
-        }
-        false
+        self.controls.ids && line_windows::MOST_TABLE_BYTES < self.lengths.table
     }
 
     // Whether the overlay row has another length than the active width, where it is looked at.
+    #[tactic(auto, unfolding(crate::specs::Faults::overlay_wrong))]
     fn overlay_wrong(self) -> bool
         ensures { result ≡ overlay_wrong self }
     {
-        if self.controls.overlay {
-            return self.lengths.overlay != self.controls.width as usize;
-        }
-        false
+        self.controls.overlay && self.lengths.overlay != self.controls.width as usize
     }
 
     // The lengths, at the lowest place: 5.
-    fn lengths_check(self) -> Answer
-        ensures { answer_outcome result ≡ verdict (length_faults self) }
+    #[tactic(auto, unfolding(crate::specs::Faults::length_faults))]
+    fn lengths_check(self) -> Result<(), Refusal>
+        ensures { outcome_of result ≡ verdict (length_faults self) }
     {
         let controls = self.controls;
         if self.lengths.store != chip_registers::STORE_WORDS {
-            return Answer::Refused(Refusal::StoreLength);
+            return Err(Refusal::StoreLength);
         }
         if self.table_too_long() {
-            return Answer::Refused(Refusal::TableLength);
+            return Err(Refusal::TableLength);
         }
         if self.lengths.normal != controls.normal_length() {
-            return Answer::Refused(Refusal::NormalLength);
+            return Err(Refusal::NormalLength);
         }
         if self.overlay_wrong() {
-            return Answer::Refused(Refusal::OverlayLength);
+            return Err(Refusal::OverlayLength);
         }
         if self.lengths.output < controls.width as usize {
-            return Answer::Refused(Refusal::OutputLength);
+            return Err(Refusal::OutputLength);
         }
-        Answer::Done
+        Ok(())
     }
 
     // 11, 10, 6, 5, in this order.
-    pub fn line_check(self) -> Answer
-        ensures { answer_outcome result ≡ verdict (line_faults self) }
+    #[tactic(auto, unfolding(crate::specs::Faults::line_faults))]
+    pub fn line_check(self) -> Result<(), Refusal>
+        ensures { outcome_of result ≡ verdict (line_faults self) }
     {
         let controls = self.controls;
         if !self.good {
-            return Answer::Refused(Refusal::BadState);
+            return Err(Refusal::BadState);
         }
         if controls.above_total() {
-            return Answer::Refused(Refusal::AboveTotal);
+            return Err(Refusal::AboveTotal);
         }
         if controls.height <= self.y {
-            return Answer::Refused(Refusal::BelowActive(self.y));
+            return Err(Refusal::BelowActive(self.y));
         }
         self.lengths_check()
     }
