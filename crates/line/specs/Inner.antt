@@ -1,22 +1,17 @@
 -- What the functions inside ask and say.
-use Rattle.std.specs.Prelude.{ℕ, ◌+◌, ◌≤◌, ◌<◌, ◌≡◌, true, List, ◌⊎◌, length}
+use Rattle.std.specs.Prelude.{ℕ, ◌+◌, ◌≤◌, ◌<◌, ◌≡◌, true, List, Result, Ok, Err, ◌⊎◌, length}
 use Rattle.rules.specs.Rule.{Outcome, ok, refused, run, value}
 use Rattle.rules.specs.Lists.{filled}
 use Rattle.rules.specs.Each.{each}
 use Rattle.rules.specs.Faults.{Numbered}
 use Rattle.rules.specs.Checked.{verdict}
 use Rattle.refusals.specs.Refusal.{numbered}
-use Rattle.refusals.specs.declared.Answer.TheVariants.{Done, Refused as Unfit}
-use Rattle.refusals.specs.declared.Answer.{Answer}
+use Rattle.refusals.specs.declared.Refusal.{Refusal}
 use Rattle.line_colour.specs.declared.entry.WindowEntry.{WindowEntry}
 use Rattle.chip_registers.specs.Store.{store_length}
 use Rattle.line_windows.specs.Table.{table_view}
-use Rattle.line_windows.specs.Carried.{id_below}
 use Rattle.line_windows.specs.Inner.{PassedIds}
-use Rattle.line_windows.specs.declared.frame.LineTable.{LineTable}
-use Rattle.line_windows.specs.declared.frame.LineTable.TheVariants.{Starts, Refused as NoTable}
-use Rattle.line_windows.specs.declared.ids.LookedUp.{LookedUp}
-use Rattle.line_windows.specs.declared.ids.LookedUp.TheVariants.{Id, Refused as NoId}
+use Rattle.line_windows.specs.declared.ids.FoundId.{FoundId}
 use Rattle.line_pixels.specs.Cells.{PixelCell, pixel_view}
 use Rattle.line_pixels.specs.Colour.{colour_of_pixel}
 use Rattle.line_pixels.specs.declared.Screen.{Screen}
@@ -46,13 +41,13 @@ abbrev pub PassedAt : Controls → List ℕ → ℕ → ℕ → ℕ → Type 0
 PassedAt controls table start from x = controls.ids ≡ true → PassedIds (table_view table) start from x
 
 -- the look-up's answer for pixel x: an ID that all pixels to the last one have, past which it may go on, or the pixel's refusal
-abbrev pub Served : Controls → List ℕ → ℕ → ℕ → LookedUp → Type 0
-Served controls table start x (Id found) =
-    id_below (Id found)
+abbrev pub Served : Controls → List ℕ → ℕ → ℕ → Result FoundId Refusal → Type 0
+Served controls table start x (Ok found) =
+    (found.id < 32)
     × (x ≤ found.last)
     × PassedAt controls table start found.next (found.last + 1)
     × ((store : List ℕ) → Over store table (λ memory. (p : ℕ) → x ≤ p → p ≤ found.last → run memory (id_at controls (length table) start p) ≡ ok found.id))
-Served controls table start x (NoId refusal) =
+Served controls table start x (Err refusal) =
     (store : List ℕ) → Over store table (λ memory. run memory (id_at controls (length table) start x) ≡ refused (numbered refusal))
 
 -- the pixel behind a run whose line entry serves pixels up to `last`, in a line of so many
@@ -65,16 +60,16 @@ Entries controls store table start =
     Over store table (λ memory. (p : ℕ) → p < controls.width → (entry : WindowEntry) × (run memory (window_entry_at controls (length table) start p) ≡ ok entry))
 
 -- the first pass's answer: that, or the refusal of the first pixel that has none
-abbrev pub EntriesAnswer : Controls → List ℕ → List ℕ → ℕ → Answer → Type 0
-EntriesAnswer controls store table start Done = Entries controls store table start
-EntriesAnswer controls store table start (Unfit refusal) =
+abbrev pub EntriesAnswer : Controls → List ℕ → List ℕ → ℕ → Result (Unit {0}) Refusal → Type 0
+EntriesAnswer controls store table start (Ok done) = Entries controls store table start
+EntriesAnswer controls store table start (Err refusal) =
     Over store table (λ memory. run memory (each (window_entry_at controls (length table) start) controls.width 0) ≡ refused (numbered refusal))
 
 -- where the line table starts, or the refusal
-abbrev pub StartAnswer : Controls → List ℕ → ℕ → LineTable → Type 0
-StartAnswer controls table y (Starts byte) =
+abbrev pub StartAnswer : Controls → List ℕ → ℕ → Result ℕ Refusal → Type 0
+StartAnswer controls table y (Ok byte) =
     (store : List ℕ) → Over store table (λ memory. run memory (start_of controls (length table) y) ≡ ok byte)
-StartAnswer controls table y (NoTable refusal) =
+StartAnswer controls table y (Err refusal) =
     (store : List ℕ) → Over store table (λ memory. run memory (start_of controls (length table) y) ≡ refused (numbered refusal))
 
 -- a line that may be drawn, with the start of its line table
@@ -84,9 +79,9 @@ pub record Drawable (setup : Setup) (store table : List ℕ) (start : ℕ) : Typ
   pub entries : Entries setup.controls store table start
 
 -- what all checks answer: that, or the line's refusal
-abbrev pub CheckedAnswer : Setup → List ℕ → List ℕ → LineTable → Type 0
-CheckedAnswer setup store table (Starts byte) = Drawable setup store table byte
-CheckedAnswer setup store table (NoTable refusal) = Over store table (λ memory. run memory (line_rule setup) ≡ refused (numbered refusal))
+abbrev pub CheckedAnswer : Setup → List ℕ → List ℕ → Result ℕ Refusal → Type 0
+CheckedAnswer setup store table (Ok byte) = Drawable setup store table byte
+CheckedAnswer setup store table (Err refusal) = Over store table (λ memory. run memory (line_rule setup) ≡ refused (numbered refusal))
 
 -- the colour of a pixel, by what was found of its window entry
 abbrev pub colour_by : (PixelCell → ℕ) → Screen → ℕ → Outcome Numbered WindowEntry → ℕ

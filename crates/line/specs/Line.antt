@@ -1,5 +1,5 @@
 -- The rule of a line: what it is refused for, each pixel's window entry, and then the colours.
-use Rattle.std.specs.Prelude.{ℕ, cond, List}
+use Rattle.std.specs.Prelude.{ℕ, cond, List, Option, Some, None}
 use Rattle.rules.specs.Rule.{Rule, done, stop, get, ◌>>=◌, within, Outcome, run}
 use Rattle.rules.specs.Each.{each, each_of}
 use Rattle.rules.specs.Faults.{Numbered}
@@ -8,8 +8,6 @@ use Rattle.refusals.specs.Refusal.{numbered}
 use Rattle.refusals.specs.declared.Refusal.TheVariants.{UndefinedEntry}
 use Rattle.line_colour.specs.Entry.{decoded}
 use Rattle.line_colour.specs.declared.entry.WindowEntry.{WindowEntry}
-use Rattle.line_colour.specs.declared.entry.Decoded.{Decoded}
-use Rattle.line_colour.specs.declared.entry.Decoded.TheVariants.{Defined, Undefined}
 use Rattle.line_windows.specs.Table.{TableCell}
 use Rattle.line_windows.specs.Frame.{line_table_of}
 use Rattle.line_windows.specs.Ids.{id_of}
@@ -36,9 +34,9 @@ unfoldable pub id_at : Controls → ℕ → ℕ → ℕ → Rule Numbered Cell �
 id_at controls table_bytes start x = cond controls.ids (in_table (id_of table_bytes start x)) (done 0)
 
 -- what a window entry says, or 9 where it is undefined (CHIP 8.1)
-abbrev pub defined_at : ℕ → Decoded → Rule Numbered Cell WindowEntry
-defined_at x (Defined entry) = done entry
-defined_at x Undefined = stop (numbered (UndefinedEntry x))
+abbrev pub defined_at : ℕ → Option WindowEntry → Rule Numbered Cell WindowEntry
+defined_at x (Some entry) = done entry
+defined_at x None = stop (numbered (UndefinedEntry x))
 
 -- a pixel's window entry, whatever covers the pixel: 8 where no line entry serves it, else 9 where its window entry is undefined (CHIP 7.1, 8.1, 8.2)
 unfoldable pub window_entry_at : Controls → ℕ → ℕ → ℕ → Rule Numbered Cell WindowEntry

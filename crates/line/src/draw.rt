@@ -1,28 +1,19 @@
 // One line of the picture.
-ghost use Rattle.std.specs.Prelude.{◌≡◌, length};
-ghost use Rattle.refusals.specs.Refusal.{answer_outcome};
+ghost use Rattle.std.specs.Prelude.{◌≡◌};
+ghost use Rattle.refusals.specs.Refusal.{outcome_of};
 ghost use Rattle.line.specs.Screen.{screen_in};
 ghost use Rattle.line.specs.Cells.{lent_of};
 ghost use Rattle.line.specs.Drawn.{setup_of, drawn};
-ghost use Rattle.line.specs.Inner.{StartAnswer, CheckedAnswer};
+ghost use Rattle.line.specs.Inner.{StartAnswer};
 
 use crate::passes::{check_runs, draw_runs};
 use crate::request::Request;
-use chip::state::State;
+use chip::answered::Answered;
+use chip_registers::STORE_WORDS;
 use line_pixels::Screen;
 use line_setup::controls::Controls;
 use line_setup::setup::{Lengths, Setup};
-use line_windows::frame::LineTable;
-use refusals::Answer;
-
-// What a line hands back.
-#[derive(Drop)]
-pub struct Drawn {
-    // The state that it was asked for by.
-    pub state: State,
-    // Done where the line is in the output, else the refusal.
-    pub answer: Answer,
-}
+use refusals::Refusal;
 
 // What a line goes by, with so many words of output.
 fn setup(
@@ -39,7 +30,7 @@ fn setup(
     let control = state.control;
     Setup {
         good: state.good(),
-        controls: Controls::of(control),
+        controls: Controls::from(control),
         y: request.y,
         lengths: Lengths {
             store: store.len(),
@@ -52,13 +43,13 @@ fn setup(
 }
 
 // Where the line table of line y starts; with window IDs off there is none.
-fn start(controls: Controls, table: &[u8], y: u32) -> LineTable
+fn start(controls: Controls, table: &[u8], y: u32) -> Result<usize, Refusal>
     ensures { StartAnswer controls table.now y result }
 {
     if controls.ids {
         return line_windows::frame::line_table(table, y);
     }
-    LineTable::Starts(0)
+    Ok(0)
 }
 
 // What a line goes by of every pixel.
@@ -77,25 +68,27 @@ fn screen(setup: Setup) -> Screen
     }
 }
 
-// Every check of a line, pixel by pixel too: where its line table starts, or the refusal.
-fn checked(setup: Setup, store: &[u32], table: &[u8]) -> LineTable
-    requires { (length store.now ≡ setup.lengths.store) × (length table.now ≡ setup.lengths.table) }
-    ensures { CheckedAnswer setup store.now table.now result }
+// Every check of a line, pixel by pixel too, and then its colours: done, or the refusal.
+fn checked_and_drawn(
+    request: Request,
+    store: &[u32],
+    table: &[u8],
+    normal: &[u8],
+    overlay: &[u8],
+    out: &mut [u32],
+) -> Result<(), Refusal>
+    ensures { ((request.state, out.new), outcome_of result) ≡ drawn request (lent_of store.now table.now normal.now overlay.now) out.old }
 {
-    let allowed = setup.line_check();
-    if let Answer::Refused(refusal) = allowed {
-        return LineTable::Refused(refusal);
-    }
+    let setup = setup(request, store, table, normal, overlay, out.len());
+    setup.line_check()?;
+    // The check found as many words.
+    let store: &[u32; STORE_WORDS] = store.try_into().unwrap();
     let controls = setup.controls;
-    let found = start(controls, table, setup.y);
-    let LineTable::Starts(start) = found else {
-        return found;
-    };
-    let checked = check_runs(controls, store, table, start);
-    match checked {
-        Answer::Done => LineTable::Starts(start),
-        Answer::Refused(refusal) => LineTable::Refused(refusal),
-    }
+    let start = start(controls, table, setup.y)?;
+    check_runs(controls, store, table, start)?;
+    let screen = screen(setup);
+    draw_runs(controls, screen, store, table, start, normal, overlay, out);
+    Ok(())
 }
 
 // Draws the line that is asked for into the front of the output, or refuses it and leaves all as it was.
@@ -106,25 +99,11 @@ pub fn draw(
     normal: &[u8],
     overlay: &[u8],
     out: &mut [u32],
-) -> Drawn
-    ensures { ((result.state, out.new), answer_outcome result.answer) ≡ drawn request (lent_of store.now table.now normal.now overlay.now) out.old }
+) -> Answered<()>
+    ensures { ((result.state, out.new), outcome_of result.answer) ≡ drawn request (lent_of store.now table.now normal.now overlay.now) out.old }
 {
-    let setup = setup(request, store, table, normal, overlay, out.len());
-    let checked = checked(setup, store, table);
-    let state = request.state;
-    match checked {
-        LineTable::Refused(refusal) => Drawn {
-            state,
-            answer: Answer::Refused(refusal),
-        },
-        LineTable::Starts(start) => {
-            let controls = setup.controls;
-            let screen = screen(setup);
-            draw_runs(controls, screen, store, table, start, normal, overlay, out);
-            Drawn {
-                state,
-                answer: Answer::Done,
-            }
-        }
+    Answered {
+        state: request.state,
+        answer: checked_and_drawn(request, store, table, normal, overlay, out),
     }
 }

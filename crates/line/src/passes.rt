@@ -1,46 +1,42 @@
 // The two passes over a line: every run is checked, and then every run is drawn.
-ghost use Rattle.std.specs.Prelude.{◌≡◌, length};
-ghost use Rattle.chip_registers.specs.Store.{store_length};
+ghost use Rattle.std.specs.Prelude.{◌≡◌};
 ghost use Rattle.line.specs.Cells.{lent_of};
 ghost use Rattle.line.specs.Inner.{InRange, FitsScreen, Entries, EntriesAnswer, Enough, coloured};
 
 use crate::runs::{entry_of, id_at, run_end, stored_entry};
-use line_colour::entry::{Decoded, WindowEntry};
-use line_formats::NamedFormat;
+use chip_registers::STORE_WORDS;
+use line_colour::entry::WindowEntry;
 use line_pixels::Screen;
 use line_setup::controls::Controls;
-use line_windows::ids::LookedUp;
-use refusals::{Answer, Refusal};
+use refusals::Refusal;
 
 // The first pass: whether every pixel has a defined window entry.
-pub(crate) fn check_runs(controls: Controls, store: &[u32], table: &[u8], start: usize) -> Answer
-    requires { length store.now ≡ store_length }
+pub(crate) fn check_runs(
+    controls: Controls,
+    store: &[u32; STORE_WORDS],
+    table: &[u8],
+    start: usize,
+) -> Result<(), Refusal>
     ensures { EntriesAnswer controls store.now table.now start result }
 {
     let mut x = 0;
     let mut from = 0;
     while x < controls.width {
-        let looked = id_at(controls, table, start, from, x);
-        match looked {
-            LookedUp::Refused(refusal) => return Answer::Refused(refusal),
-            LookedUp::Id(found) => {
-                let says = entry_of(controls, store, found.id);
-                if let Decoded::Undefined = says {
-                    return Answer::Refused(Refusal::UndefinedEntry(x));
-                }
-                x = run_end(controls, found.last);
-                from = found.next;
-            }
+        let found = id_at(controls, table, start, from, x)?;
+        if entry_of(controls, store, found.id).is_none() {
+            return Err(Refusal::UndefinedEntry(x));
         }
+        x = run_end(controls, found.last);
+        from = found.next;
     }
-    Answer::Done
+    Ok(())
 }
 
 // The second pass: every run is lent the rest of the output, from where it begins.
 pub(crate) fn draw_runs(
     controls: Controls,
     screen: Screen,
-    store: &[u32],
+    store: &[u32; STORE_WORDS],
     table: &[u8],
     start: usize,
     normal: &[u8],
@@ -53,13 +49,13 @@ pub(crate) fn draw_runs(
     let mut x = 0;
     let mut from = 0;
     while x < controls.width {
-        let LookedUp::Id(found) = id_at(controls, table, start, from, x) else {
+        let Ok(found) = id_at(controls, table, start, from, x) else {
             // Not taken: the first pass found an ID for every pixel.
             return;
         };
         // By its format, as the first pass found the window entry defined: the decoder's answer would be put together in memory and taken apart for each run.
         let word = stored_entry(store, found.id);
-        let NamedFormat::Is(format) = line_colour::entry::format_of(word) else {
+        let Some(format) = line_colour::entry::format_of(word) else {
             // Not taken: a defined window entry names a format.
             return;
         };
