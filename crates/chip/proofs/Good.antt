@@ -7,6 +7,7 @@ use native.Mathlib.Nat.{add-zero, zero-add, suc-add}
 use native.Mathlib.Omega.{arith}
 use borrow.Author.Tests.{leb-true, leb-false, le-leb}
 use lib.ListN.{length, set, length-set}
+use Rattle.std.proofs.lemmas.Bool.{and_parts}
 use Rattle.chip_timing.proofs.Move.{next_x_lt, next_y_lt}
 use Rattle.chip_registers.specs.Blocks.{count}
 use Rattle.chip_registers.specs.Kept.{kept_of_control, fits}
@@ -20,7 +21,7 @@ use Rattle.chip_queue.specs.Good.{good_queue}
 use Rattle.chip_queue.specs.declared.Waiting.{Waiting}
 use Rattle.chip_queue.specs.declared.Queue.{Queue}
 use Rattle.chip_queue.proofs.Order.{sized_pushed, sized_popped}
-use Rattle.chip_queue.proofs.Rule.{both, says_write, good_pushed, good_popped}
+use Rattle.chip_queue.proofs.Rule.{says_write, good_pushed, good_popped}
 use Rattle.chip.specs.State.{HasArrays, fresh, control_word, good_words, good_state}
 use Rattle.chip.specs.Call.{Chip}
 use Rattle.chip.specs.Write.{put}
@@ -40,9 +41,9 @@ pub good_says : (state : State) → good_state state ≡ true
     → (good_words 0 state.control ≡ true) × (state.at.x ≤ 4095) × (state.at.y ≤ 4095) × (good_queue state.queue ≡ true)
 unfolding good_state
 good_says state good =
-    let all = both _ _ good in
-    let three = both _ _ all.0 in
-    let two = both _ _ three.0 in
+    let all = and_parts _ _ good in
+    let three = and_parts _ _ all.0 in
+    let two = and_parts _ _ three.0 in
     (two.0, leb-true _ _ two.1, leb-true _ _ three.1, all.1)
 
 -- a state with no stray control bits, a position of at most 4,095 either way and a good queue keeps the rule
@@ -69,10 +70,10 @@ words_set : (from : ℕ) (words : List ℕ) (word value : ℕ) → fits (record 
     → good_words from words ≡ true → good_words from (set words word value) ≡ true
 words_set from [] word value fine good = refl
 words_set from (first ∷ words) zero value fine good =
-    let e = both (fits (record { block = Control; word = from }) first) (good_words (suc from) words) good in
+    let e = and_parts (fits (record { block = Control; word = from }) first) (good_words (suc from) words) good in
     rw (rw add-zero at fine) e.1
 words_set from (first ∷ words) (suc word) value fine good =
-    let e = both (fits (record { block = Control; word = from }) first) (good_words (suc from) words) good in
+    let e = and_parts (fits (record { block = Control; word = from }) first) (good_words (suc from) words) good in
     let same : from + suc word ≡ suc from + word = omega arith in
     rw e.0 (words_set (suc from) words word value (rw same at fine) e.1)
 

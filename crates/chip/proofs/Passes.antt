@@ -7,12 +7,12 @@ use native.Mathlib.Numerals.{add-one}
 use native.Mathlib.Omega.{arith}
 use borrow.Author.Tests.{ltb-true}
 use lib.Dec.{ltb}
+use Rattle.std.proofs.lemmas.Bool.{and_parts}
 use Rattle.chip_timing.specs.Signals.{signals_at}
 use Rattle.chip_timing.specs.Move.{next_position, position_after}
 use Rattle.chip_timing.specs.Walk.{walked}
 use Rattle.chip_timing.proofs.Walked.{walk_stops, walk_left_le}
 use Rattle.chip_queue.specs.Queue.{without}
-use Rattle.chip_queue.proofs.Rule.{both}
 use Rattle.chip_queue.proofs.Slots.{waiting_without}
 use Rattle.chip.specs.State.{control_word, windows_of, with_position}
 use Rattle.chip.specs.Dot.{drains, after_dot}
@@ -33,7 +33,7 @@ none_leave state store pass none = rw none refl
 
 -- where a dot applies a write, not all that wait are taken
 pub more_wait : (blank : Bool) (waiting taken : ℕ) → (blank && ltb 0 (waiting - taken)) ≡ true → taken + 1 ≤ waiting
-more_wait blank waiting taken draining = let some : 0 < waiting - taken = ltb-true _ _ (both blank (ltb 0 (waiting - taken)) draining).1 in omega arith
+more_wait blank waiting taken draining = let some : 0 < waiting - taken = ltb-true _ _ (and_parts blank (ltb 0 (waiting - taken)) draining).1 in omega arith
 
 module _ (state : State) (pass : Pass) (blank : Bool) (here : (signals_at (windows_of state) pass.at).blank ≡ blank) (store : List ℕ) where
   -- whether the next dot drains the queue, by how many wait still

@@ -9,6 +9,9 @@ use native.Mathlib.Omega.{arith}
 use borrow.Author.Tests.{ltb-true, leb-true, lt-ltb}
 use lib.ListN.{length, get_or, length-take}
 use lib.Seq.{get_or-take}
+use Rattle.std.proofs.lemmas.Bool.{and_parts}
+use Rattle.std.proofs.lemmas.List.Elements.{All-from_get_or}
+use Rattle.std.proofs.lemmas.List.Sums.{list_all-from_AllPass}
 use Rattle.chip_registers.specs.Kept.{fits}
 use Rattle.chip_registers.specs.declared.Block.TheVariants.{Control}
 use Rattle.chip_registers.proofs.Kept.{colour_fits}
@@ -19,7 +22,6 @@ use Rattle.chip_queue.specs.Waiting.{good_write}
 use Rattle.chip_queue.specs.Good.{all_good}
 use Rattle.chip_queue.specs.declared.Waiting.{Waiting}
 use Rattle.chip_queue.proofs.Rule as queue_rule
-use Rattle.chip_queue.proofs.Rule.{both}
 use Rattle.chip.specs.State.{HasArrays, control_word, good_words, good_state}
 use Rattle.chip.specs.declared.state.State.{State}
 use Rattle.chip.proofs.Good.{says_good}
@@ -45,10 +47,10 @@ pub record KeepsRule (state : State) : Type 0 where
 -- where the words are good, each fits
 words_fit : (from : ℕ) (words : List ℕ) → good_words from words ≡ true → (n : ℕ) → n < length words → fits (register_in Control (from + n)) (get_or words n 0) ≡ true
 words_fit from [] good n h = absurd (omega arith)
-words_fit from (first ∷ words) good zero h = rw add-zero (both (fits (register_in Control from) first) (good_words (suc from) words) good).0
+words_fit from (first ∷ words) good zero h = rw add-zero (and_parts (fits (register_in Control from) first) (good_words (suc from) words) good).0
 words_fit from (first ∷ words) good (suc n) h =
     let same : from + suc n ≡ suc from + n = omega arith in
-    rw same (words_fit (suc from) words (both (fits (register_in Control from) first) (good_words (suc from) words) good).1 n (omega arith))
+    rw same (words_fit (suc from) words (and_parts (fits (register_in Control from) first) (good_words (suc from) words) good).1 n (omega arith))
 
 -- where each fits, the words are good
 fit_words : (from : ℕ) (words : List ℕ) → ((n : ℕ) → n < length words → fits (register_in Control (from + n)) (get_or words n 0) ≡ true) → good_words from words ≡ true
@@ -61,8 +63,7 @@ fit_words from (first ∷ words) fit =
 
 -- where each of some writes is good, all are
 each_good : (writes : List Waiting) → ((k : ℕ) → k < length writes → good_write (get_or writes k zero_slot) ≡ true) → all_good writes ≡ true
-each_good [] each = refl
-each_good (first ∷ writes) each = rw (each 0 (omega arith)) (each_good writes (λ k h. each (suc k) (omega arith)))
+each_good writes each = list_all-from_AllPass good_write writes (All-from_get_or (λ write. good_write write ≡ true) writes zero_slot each)
 
 module _ (write : Waiting) where
   -- a good write is for one of 4,608 entries and has a colour of 24 bits
@@ -80,9 +81,9 @@ module _ (state : State) (whole : HasArrays state) where
   pub rule_says : good_state state ≡ true → KeepsRule state
   unfolding good_state
   rule_says good =
-      let all = both _ _ good in
-      let three = both _ _ all.0 in
-      let two = both _ _ three.0 in
+      let all = and_parts _ _ good in
+      let three = and_parts _ _ all.0 in
+      let two = and_parts _ _ three.0 in
       let word : (n : ℕ) → n < 9 → fits (register_in Control n) (control_word state n) ≡ true =
       λ n h. rw zero-add at (words_fit 0 state.control two.0 n (omega (arith, whole.0))) in
       let queue = queue_rule.good_says state.queue all.1 in

@@ -1,6 +1,6 @@
 -- A register write.
 use Rattle.std.specs.Prelude.{ℕ, Bool, true, not, cond, ◌&&◌, List, [], ◌∷◌, ◌++◌, length, set}
-use Rattle.rules.specs.Rule.{Outcome, refused}
+use Rattle.rules.specs.Rule.{Outcome}
 use Rattle.rules.specs.Faults.{Numbered, Fault, unless}
 use Rattle.refusals.specs.Refusal.{fault}
 use Rattle.refusals.specs.declared.Refusal.TheVariants.{NoRegister, ReadOnly, StrayBits, QueueFull}

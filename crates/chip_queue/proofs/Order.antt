@@ -7,6 +7,7 @@ use native.Mathlib.Omega.{arith}
 use borrow.Author.Tests.{lt-leb}
 use lib.ListN.{length, get_or, set, take, drop, length-set, length-append}
 use lib.Seq.{take-suc-set}
+use Rattle.std.proofs.lemmas.List.{take-append-le, length-drop, length-take-le}
 use Rattle.chip_queue.specs.Queue.{zero_slot, HasSlots, waiting_in, full, oldest, pushed, popped, without}
 use Rattle.chip_queue.specs.declared.Waiting.{Waiting}
 use Rattle.chip_queue.specs.declared.Queue.{Queue}
@@ -25,19 +26,13 @@ module _ (queue : Queue) (write : Waiting) (more : queue.waiting < 64) where
   pub sized_pushed : HasSlots queue → HasSlots (pushed queue write)
   sized_pushed sized = rw pushed_is (simp length-set sized)
 
--- of a list with one more at its end the first elements are the same
-take_front : (n : ℕ) (slots : List Waiting) (last : Waiting) → n ≤ length slots → take n (slots ++ (last ∷ [])) ≡ take n slots
-take_front zero slots last h = refl
-take_front (suc n) [] last h = absurd (omega arith)
-take_front (suc n) (a ∷ slots) last h = ap (λ (rest : List Waiting). a ∷ rest) (take_front n slots last (omega arith))
-
 -- where all move up by one, those that waited but the first are the first now
 take_shift : (n : ℕ) (slots : List Waiting) (last : Waiting) → n ≤ length slots → take (n - 1) (drop 1 slots ++ (last ∷ [])) ≡ drop 1 (take n slots)
 take_shift zero slots last h = refl
 take_shift (suc n) [] last h = absurd (omega arith)
 take_shift (suc n) (a ∷ slots) last h =
     let e : suc n - 1 ≡ n = omega arith in
-    rw e (take_front n slots last (omega arith))
+    rw e (take-append-le n slots (last ∷ []) (omega arith))
 
 module _ (queue : Queue) (sized : HasSlots queue) where
   -- without the oldest write, the others wait in their order
@@ -46,12 +41,7 @@ module _ (queue : Queue) (sized : HasSlots queue) where
 
   -- a queue without its oldest write has as many slots as before
   pub sized_popped : HasSlots (popped queue)
-  sized_popped = by queue.slots sized
-    where
-      -- of 64 slots one leaves in front and one joins behind
-      by : (slots : List Waiting) → length slots ≡ 64 → length (drop 1 slots ++ (zero_slot ∷ [])) ≡ 64
-      by [] h = absurd (omega arith)
-      by (a ∷ slots) h = simp length-append (omega arith)
+  sized_popped = simp (length-append, length-drop) (omega arith)
 
   -- the oldest is the front of those that wait
   pub waiting_front : 0 < queue.waiting → waiting_in queue ≡ oldest queue ∷ drop 1 (waiting_in queue)
@@ -71,10 +61,4 @@ sized_without queue sized (suc count) = sized_popped (without queue count) (size
 
 -- as many wait as the count says
 pub length_waiting : (queue : Queue) → HasSlots queue → queue.waiting ≤ 64 → length (waiting_in queue) ≡ queue.waiting
-length_waiting queue sized few = by queue.waiting queue.slots (omega arith)
-  where
-    -- where there are n slots, the first n are n
-    by : (n : ℕ) (slots : List Waiting) → n ≤ length slots → length (take n slots) ≡ n
-    by zero slots h = refl
-    by (suc n) [] h = absurd (omega arith)
-    by (suc n) (a ∷ slots) h = ap suc (by n slots (omega arith))
+length_waiting queue sized few = length-take-le queue.waiting queue.slots (omega arith)

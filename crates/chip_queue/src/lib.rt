@@ -3,8 +3,8 @@
 
 ghost use Rattle.std.specs.Prelude.{◌-◌, ◌≡◌};
 ghost use Rattle.chip_queue.specs.Waiting.{good_write, target};
-ghost use Rattle.chip_queue.specs.Queue.{empty_queue, room, full, pushed, without};
-ghost use Rattle.chip_queue.specs.Good.{good_queue};
+ghost use Rattle.chip_queue.specs.Queue.{empty_queue, room, full, pushed, popped, without};
+ghost use Rattle.chip_queue.specs.Good.{all_good, good_queue};
 
 use chip_registers::{COLOUR_BITS, COLOUR_MAP_START, COLOUR_MAP_WORDS};
 
@@ -40,23 +40,13 @@ pub struct Queue {
     pub slots: [Waiting; SLOTS],
 }
 
-// One less, and 0 of 0.
-fn one_less(count: u32) -> u32
-    ensures { result ≡ count - 1 }
-{
-    if count == 0 { 0 } else { count - 1 }
-}
-
 impl Waiting {
     // Whether there is such a word, and the write has no bits but those that it keeps.
+    #[tactic(auto, using(chip_registers::proofs::Kept::colour_fits), unfolding(crate::specs::Waiting::good_write))]
     pub fn good(self) -> bool
         ensures { result ≡ good_write self }
     {
-        if self.word < COLOUR_MAP_WORDS {
-            self.value < COLOURS
-        } else {
-            false
-        }
+        self.word < COLOUR_MAP_WORDS && self.value < COLOURS
     }
 
     // Where it goes in the store.
@@ -65,6 +55,13 @@ impl Waiting {
     {
         COLOUR_MAP_START + (self.word as usize)
     }
+}
+
+// Whether every one of some writes is good.
+fn all_good(writes: &[Waiting]) -> bool
+    ensures { result ≡ all_good writes.now }
+{
+    writes.iter().all(|write| write.good())
 }
 
 impl Queue {
@@ -82,14 +79,11 @@ impl Queue {
     pub fn room(self) -> u32
         ensures { result ≡ room self }
     {
-        if self.waiting < MOST_WAITING {
-            MOST_WAITING - self.waiting
-        } else {
-            0
-        }
+        MOST_WAITING.saturating_sub(self.waiting)
     }
 
     // Whether 64 wait.
+    #[tactic(auto, unfolding(crate::specs::Queue::full))]
     pub fn full(self) -> bool
         ensures { result ≡ full self }
     {
@@ -97,6 +91,7 @@ impl Queue {
     }
 
     // With one more write at the end, where there is room.
+    #[tactic(auto, unfolding(crate::specs::Queue::full, crate::specs::Queue::pushed))]
     pub fn pushed(mut self, write: Waiting) -> Self
         ensures { result ≡ pushed self write }
     {
@@ -108,42 +103,32 @@ impl Queue {
         self
     }
 
+    // Lets the oldest write go: the others move up, and the last slot becomes zero.
+    #[tactic(auto, using(crate::proofs::Slots::turned))]
+    fn pop(&mut self)
+        ensures { self.new ≡ popped self.old }
+    {
+        self.slots.rotate_left(1);
+        self.slots[LAST_SLOT] = Waiting { word: 0, value: 0 };
+        self.waiting = self.waiting.saturating_sub(1);
+    }
+
     // Without so many of the oldest writes: for each the others move up, and the last slot becomes zero.
+    #[tactic(auto, unfolding(crate::specs::Queue::without))]
     pub fn without(mut self, count: u32) -> Self
         ensures { result ≡ without self count }
     {
-        let mut taken = 0;
-        while taken < count {
-            let mut i: usize = 0;
-            while i < LAST_SLOT {
-                let next = self.slots[i + 1];
-                self.slots[i] = next;
-                i += 1;
-            }
-            self.slots[LAST_SLOT] = Waiting { word: 0, value: 0 };
-            self.waiting = one_less(self.waiting);
-            taken += 1;
+        for _ in 0..count {
+            self.pop();
         }
         self
     }
 
     // Whether at most 64 wait, and every write that waits is good. Slots beyond them do not count.
+    #[tactic(auto, unfolding(crate::specs::Good::good_queue))]
     pub fn good(self) -> bool
         ensures { result ≡ good_queue self }
     {
-        if MOST_WAITING < self.waiting {
-            return false;
-        }
-        let waiting = self.waiting as usize;
-        let mut i: usize = 0;
-        while i < waiting {
-            let write = self.slots[i];
-            if write.good() {
-                i += 1;
-            } else {
-                return false;
-            }
-        }
-        true
+        self.waiting <= MOST_WAITING && all_good(&self.slots[..self.waiting as usize])
     }
 }

@@ -6,14 +6,13 @@ use mathlib.Core.Logic.{⊎_elim}
 use native.Mathlib.Omega.{arith}
 use borrow.Author.Tests.{lt-ltb, le-ltb}
 use lib.Dec.{ltb}
+use Rattle.std.specs.Prelude.{Some}
 use Rattle.rules.proofs.Cases.{impossible, le_or_lt}
 use Rattle.chip_registers.specs.Named.{address_place, named}
 use Rattle.chip_registers.specs.Store.{store_place}
 use Rattle.chip_registers.specs.declared.Block.{Block}
 use Rattle.chip_registers.specs.declared.Block.TheVariants.{Control, WindowEntries, ColourMap, GammaMap, CursorGlyph, CursorColours}
 use Rattle.chip_registers.specs.declared.Register.{Register}
-use Rattle.chip_registers.specs.declared.Named.TheVariants.{Is}
-use Rattle.chip_registers.specs.declared.StorePlace.TheVariants.{At}
 use Rattle.chip_registers.proofs.Naming.{named_top_byte}
 use Rattle.chip_registers.proofs.Map.{register_in, InTable, named_listed, listed_named}
 
@@ -57,7 +56,7 @@ module _ (word : ℕ) where
       (omega arith)
 
 -- a register of the store stands at the address of its word
-pub at_store_address : (block : Block) (word address index : ℕ) → named address ≡ Is (register_in block word) → store_place (register_in block word) ≡ At index
+pub at_store_address : (block : Block) (word address index : ℕ) → named address ≡ Some (register_in block word) → store_place (register_in block word) ≡ Some index
     → address_place address ≡ store_address index
 at_store_address Control word address index names at = impossible (cc)
 at_store_address WindowEntries word address index names at =
@@ -82,7 +81,7 @@ at_store_address CursorColours word address index names at =
     let is : index ≡ 4960 + word = cc in
     here.0 ∙ sym (of_cursor_colours word) ∙ ap store_address (sym is)
 
-module _ (a b : ℕ) (register other : Register) (names : named a ≡ Is register) (names' : named b ≡ Is other) where
+module _ (a b : ℕ) (register other : Register) (names : named a ≡ Some register) (names' : named b ≡ Some other) where
   -- two addresses of one place name one register
   one_name : address_place a ≡ address_place b → register ≡ other
   one_name same =
@@ -90,7 +89,7 @@ module _ (a b : ℕ) (register other : Register) (names : named a ≡ Is registe
       cc
 
   -- no two registers share a word of the store: addresses that name registers on one word are one place, and name one register
-  pub apart : (index : ℕ) → store_place register ≡ At index → store_place other ≡ At index → (address_place a ≡ address_place b) × (register ≡ other)
+  pub apart : (index : ℕ) → store_place register ≡ Some index → store_place other ≡ Some index → (address_place a ≡ address_place b) × (register ≡ other)
   apart index at at' =
       let same : address_place a ≡ address_place b =
       at_store_address register.block register.word a index names at
@@ -102,8 +101,8 @@ pub record HasRegister (index : ℕ) : Type 0 where
   pub address : ℕ
   pub register : Register
   pub low : address < 2 ^ 24
-  pub names : named address ≡ Is register
-  pub place : store_place register ≡ At index
+  pub names : named address ≡ Some register
+  pub place : store_place register ≡ Some index
 
 -- every word of the store is a register's: its 4,963 words have one each
 pub every_word : (index : ℕ) → index < 4963 → HasRegister index
@@ -112,17 +111,17 @@ every_word index h =
     (λ from32. ⊎_elim
     (λ from4640. ⊎_elim
     (λ from4896. ⊎_elim
-    (λ from4960. has CursorColours (index - 4960) (0x041000 + 4 * (index - 4960)) (omega arith) (omega arith) (ap At (omega arith)))
-    (λ below4960. has CursorGlyph (index - 4896) (0x040000 + 4 * (index - 4896)) (omega arith) (omega arith) (ap At (omega arith)))
+    (λ from4960. has CursorColours (index - 4960) (0x041000 + 4 * (index - 4960)) (omega arith) (omega arith) (ap Some (omega arith)))
+    (λ below4960. has CursorGlyph (index - 4896) (0x040000 + 4 * (index - 4896)) (omega arith) (omega arith) (ap Some (omega arith)))
     (le_or_lt 4960 index))
-    (λ below4896. has GammaMap (index - 4640) (0x030000 + 4 * (index - 4640)) (omega arith) (omega arith) (ap At (omega arith)))
+    (λ below4896. has GammaMap (index - 4640) (0x030000 + 4 * (index - 4640)) (omega arith) (omega arith) (ap Some (omega arith)))
     (le_or_lt 4896 index))
-    (λ below4640. has ColourMap (index - 32) (0x020000 + 4 * (index - 32)) (omega arith) (omega arith) (ap At (omega arith)))
+    (λ below4640. has ColourMap (index - 32) (0x020000 + 4 * (index - 32)) (omega arith) (omega arith) (ap Some (omega arith)))
     (le_or_lt 4640 index))
-    (λ below32. has WindowEntries index (0x010000 + 4 * index) (omega arith) (omega arith) (ap At (omega arith)))
+    (λ below32. has WindowEntries index (0x010000 + 4 * index) (omega arith) (omega arith) (ap Some (omega arith)))
     (le_or_lt 32 index)
   where
     -- the word of a block that stands there
-    has : (block : Block) (word address : ℕ) → address < 2 ^ 24 → InTable block word (address % 2 ^ 24) → store_place (register_in block word) ≡ At index → HasRegister index
+    has : (block : Block) (word address : ℕ) → address < 2 ^ 24 → InTable block word (address % 2 ^ 24) → store_place (register_in block word) ≡ Some index → HasRegister index
     has block word address low here place =
         record { address = address; register = register_in block word; low = low; names = listed_named block word address here; place = place }

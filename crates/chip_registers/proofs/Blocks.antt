@@ -6,11 +6,11 @@ use mathlib.Core.List.{List, [], ◌∷◌, ◌++◌}
 use native.Mathlib.Omega.{arith}
 use borrow.Author.Tests.{lt-ltb, le-ltb, le-leb, lt-leb}
 use lib.Dec.{leb}
+use Rattle.std.specs.Prelude.{None}
 use Rattle.chip_registers.specs.Blocks.{blocks, start, count}
 use Rattle.chip_registers.specs.Named.{word_at, is_word_of, among}
 use Rattle.chip_registers.specs.declared.Block.{Block}
 use Rattle.chip_registers.specs.declared.Block.TheVariants.{Control, WindowEntries, ColourMap, GammaMap, CursorGlyph, CursorColours}
-use Rattle.chip_registers.specs.declared.Named.TheVariants.{Nothing}
 
 module _ (block : Block) (place : ℕ) where
   -- no word of a block stands before its start
@@ -39,7 +39,7 @@ Past place [] = Unit
 Past place (block ∷ others) = (start block + 4 * count block ≤ place) × Past place others
 
 -- before all blocks nothing stands
-before_all : (place : ℕ) (later : List Block) → Before place later → among later place ≡ Nothing
+before_all : (place : ℕ) (later : List Block) → Before place later → among later place ≡ None
 before_all place [] h = refl
 before_all place (block ∷ later) h = rw (before_start block place h.0) (before_all place later h.1)
 

@@ -2,7 +2,6 @@ pub mod Blocks
 pub mod Naming
 pub mod Kept
 pub mod Store
-pub mod Access
 pub mod Map
 pub mod Fields
 pub mod Apart

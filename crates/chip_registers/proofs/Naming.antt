@@ -7,29 +7,29 @@ use mathlib.Core.Logic.{⊎_elim}
 use native.Mathlib.Omega.{arith}
 use borrow.Author.Tests.{eqb-true, eq-eqb, ne_eqb}
 use lib.Dec.{eqb}
+use Rattle.std.specs.Prelude.{Some, None}
 use Rattle.rules.proofs.Cases.{impossible, le_or_lt}
 use Rattle.chip_registers.specs.Blocks.{blocks, start, count}
 use Rattle.chip_registers.specs.Named.{address_place, word_at, is_word_of, among, named}
 use Rattle.chip_registers.specs.declared.Block.{Block}
 use Rattle.chip_registers.specs.declared.Block.TheVariants.{Control, WindowEntries, ColourMap, GammaMap, CursorGlyph, CursorColours}
 use Rattle.chip_registers.specs.declared.Register.{Register}
-use Rattle.chip_registers.specs.declared.Named.TheVariants.{Is, Nothing}
 use Rattle.chip_registers.proofs.Blocks.{before_start, past_end, within, Until, alone}
 
 module _ (address place : ℕ) (same : place ≡ address_place address) where
   -- an address that is no multiple of 4 names nothing
-  pub named_unaligned : (place % 4 ≡ 0 → ⊥) → named address ≡ Nothing
+  pub named_unaligned : (place % 4 ≡ 0 → ⊥) → named address ≡ None
   unfolding named
   named_unaligned odd = rw (← same, ne_eqb (place % 4) 0 odd)
 
   module _ (block : Block) (aligned : place % 4 ≡ 0) (own : among blocks place ≡ among (block ∷ []) place) where
     -- a word of the one block that the place can be in
-    pub named_within : start block ≤ place → word_at block place < count block → named address ≡ Is (record { block = block; word = word_at block place })
+    pub named_within : start block ≤ place → word_at block place < count block → named address ≡ Some (record { block = block; word = word_at block place })
     unfolding named
     named_within from below = rw (← same, eq-eqb (place % 4) 0 aligned, own, within block place from below)
 
     -- past the last word of that block
-    pub named_past : count block ≤ word_at block place → named address ≡ Nothing
+    pub named_past : count block ≤ word_at block place → named address ≡ None
     unfolding named
     named_past past = rw (← same, eq-eqb (place % 4) 0 aligned, own, past_end block place past)
 
@@ -38,7 +38,7 @@ pub named_top_byte : (address : ℕ) → named (address % 2 ^ 24) ≡ named addr
 unfolding named
 named_top_byte address =
     let same : address_place (address % 2 ^ 24) ≡ address_place address = omega arith in
-    ap (λ (place : ℕ). cond (eqb (place % 4) 0) (among blocks place) Nothing) same
+    ap (λ (place : ℕ). cond (eqb (place % 4) 0) (among blocks place) None) same
 
 -- the place of a word: within its block's room, of 24 bits, a multiple of 4
 word_stands : (block : Block) (word : ℕ) → word < count block
@@ -51,7 +51,7 @@ word_stands CursorGlyph word h = omega arith
 word_stands CursorColours word h = omega arith
 
 -- every word of every block is named by its address
-pub stored_at : (block : Block) (word : ℕ) → word < count block → named (start block + 4 * word) ≡ Is (record { block = block; word = word })
+pub stored_at : (block : Block) (word : ℕ) → word < count block → named (start block + 4 * word) ≡ Some (record { block = block; word = word })
 stored_at block word h =
     let place : ℕ = start block + 4 * word in
     let stands = word_stands block word h in
@@ -59,12 +59,12 @@ stored_at block word h =
     rw is at (named_within place place stands.1 block stands.2 (alone block place (omega arith) stands.0) (omega arith) (omega arith))
 
 -- control word 9, the room in the queue
-pub named_room : named 0x24 ≡ Is (record { block = Control; word = 9 })
+pub named_room : named 0x24 ≡ Some (record { block = Control; word = 9 })
 unfolding named is_word_of
 named_room = refl
 
 -- control word 10, the position
-pub named_position : named 0x28 ≡ Is (record { block = Control; word = 10 })
+pub named_position : named 0x28 ≡ Some (record { block = Control; word = 10 })
 unfolding named is_word_of
 named_position = refl
 
@@ -75,24 +75,24 @@ below_count block place is =
 
 module _ (place : ℕ) (register : Register) where
   -- the register that a place is in some blocks is a word of its block
-  among_word : (some : List Block) → among some place ≡ Is register → register.word < count register.block
+  among_word : (some : List Block) → among some place ≡ Some register → register.word < count register.block
   among_word [] e = impossible (cc)
   among_word (block ∷ others) e = by (is_word_of block place) refl (among_word others)
     where
       -- by whether the place is a word of the first block, else of the others
-      by : (test : Bool) → is_word_of block place ≡ test → (among others place ≡ Is register → register.word < count register.block) → register.word < count register.block
+      by : (test : Bool) → is_word_of block place ≡ test → (among others place ≡ Some register → register.word < count register.block) → register.word < count register.block
       by true is rest = let same : register ≡ record { block = block; word = word_at block place } = cc in rw same (below_count block place is)
       by false is rest = rest (rw is at e)
 
 -- the register that an address names is a word of its block
-pub named_word : (address : ℕ) (register : Register) → named address ≡ Is register → register.word < count register.block
+pub named_word : (address : ℕ) (register : Register) → named address ≡ Some register → register.word < count register.block
 unfolding named
 named_word address register e = by (eqb (address_place address % 4) 0) refl
   where
     -- by whether the place is a multiple of 4
     by : (test : Bool) → eqb (address_place address % 4) 0 ≡ test → register.word < count register.block
     by true is = among_word (address_place address) register blocks (rw is at e)
-    by false is = let wrong : Nothing ≡ Is register = rw is at e in impossible (cc)
+    by false is = let wrong : None ≡ Some register = rw is at e in impossible (cc)
 
 -- ---- where a register stands
 
@@ -112,22 +112,22 @@ stands_at block place aligned is =
 
 module _ (place : ℕ) (register : Register) (aligned : place % 4 ≡ 0) where
   -- the register that a place is in some blocks stands four times its number behind its block's start
-  among_place : (some : List Block) → among some place ≡ Is register → place ≡ start register.block + 4 * register.word
+  among_place : (some : List Block) → among some place ≡ Some register → place ≡ start register.block + 4 * register.word
   among_place [] e = impossible (cc)
   among_place (block ∷ others) e = by (is_word_of block place) refl (among_place others)
     where
       -- by whether the place is a word of the first block, else of the others
-      by : (test : Bool) → is_word_of block place ≡ test → (among others place ≡ Is register → place ≡ start register.block + 4 * register.word)
+      by : (test : Bool) → is_word_of block place ≡ test → (among others place ≡ Some register → place ≡ start register.block + 4 * register.word)
           → place ≡ start register.block + 4 * register.word
       by true is rest = let same : register ≡ record { block = block; word = word_at block place } = cc in rw same (stands_at block place aligned is)
       by false is rest = rest (rw is at e)
 
 -- the register that an address names stands at that address, so no two places name one register
-pub named_place : (address : ℕ) (register : Register) → named address ≡ Is register → address_place address ≡ start register.block + 4 * register.word
+pub named_place : (address : ℕ) (register : Register) → named address ≡ Some register → address_place address ≡ start register.block + 4 * register.word
 unfolding named
 named_place address register e = by (eqb (address_place address % 4) 0) refl
   where
     -- by whether the place is a multiple of 4
     by : (test : Bool) → eqb (address_place address % 4) 0 ≡ test → address_place address ≡ start register.block + 4 * register.word
     by true is = among_place (address_place address) register (eqb-true (address_place address % 4) 0 is) blocks (rw is at e)
-    by false is = let wrong : Nothing ≡ Is register = rw is at e in impossible (cc)
+    by false is = let wrong : None ≡ Some register = rw is at e in impossible (cc)

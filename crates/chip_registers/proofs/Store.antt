@@ -3,13 +3,13 @@ use Prim.Native.Nat.{ℕ, ◌+◌, ◌≤◌, ◌<◌}
 use mathlib.Core.Path.{◌≡◌, refl, ap, sym}
 use mathlib.Core.Bool.{Bool, true, cond}
 use native.Mathlib.Omega.{arith}
+use Rattle.std.specs.Prelude.{Some, None}
 use Rattle.rules.proofs.Cases.{impossible}
 use Rattle.chip_registers.specs.Blocks.{count}
 use Rattle.chip_registers.specs.Store.{in_store, store_start, store_length, store_place}
 use Rattle.chip_registers.specs.declared.Block.{Block}
 use Rattle.chip_registers.specs.declared.Block.TheVariants.{Control, WindowEntries, ColourMap, GammaMap, CursorGlyph, CursorColours}
 use Rattle.chip_registers.specs.declared.Register.{Register}
-use Rattle.chip_registers.specs.declared.StorePlace.TheVariants.{At, Nowhere}
 
 -- the store has 4,963 words
 pub store_length_is : store_length ≡ 4963
@@ -39,7 +39,7 @@ index_below CursorGlyph word stored h = omega arith
 index_below CursorColours word stored h = omega arith
 
 -- block by block, a register that has a place in the store is of a block that is in it, and stands so many words behind the block's start
-place_of : (block : Block) (word index : ℕ) → store_place (record { block = block; word = word }) ≡ At index → (in_store block ≡ true) × (store_start block + word ≡ index)
+place_of : (block : Block) (word index : ℕ) → store_place (record { block = block; word = word }) ≡ Some index → (in_store block ≡ true) × (store_start block + word ≡ index)
 place_of Control word index at = impossible (cc)
 place_of WindowEntries word index at = (refl, cc)
 place_of ColourMap word index at = (refl, cc)
@@ -48,17 +48,17 @@ place_of CursorGlyph word index at = (refl, cc)
 place_of CursorColours word index at = (refl, cc)
 
 -- a register's place in the store is one of its words
-pub place_below : (register : Register) (index : ℕ) → store_place register ≡ At index → register.word < count register.block → index < store_length
+pub place_below : (register : Register) (index : ℕ) → store_place register ≡ Some index → register.word < count register.block → index < store_length
 place_below register index at here =
     let there = place_of register.block register.word index at in
     rw (sym there.1) (index_below register.block register.word there.0 here)
 
 -- a register of a block in the store has a place there
-pub stored_place : (register : Register) → in_store register.block ≡ true → store_place register ≡ At (store_start register.block + register.word)
-stored_place register here = ap (λ (stored : Bool). cond stored (At (store_start register.block + register.word)) Nowhere) here
+pub stored_place : (register : Register) → in_store register.block ≡ true → store_place register ≡ Some (store_start register.block + register.word)
+stored_place register here = ap (λ (stored : Bool). cond stored (Some (store_start register.block + register.word)) None) here
 
 -- a register that stands nowhere in the store is a control word
-pub nowhere_control : (block : Block) (word : ℕ) → store_place (record { block = block; word = word }) ≡ Nowhere → block ≡ Control
+pub nowhere_control : (block : Block) (word : ℕ) → store_place (record { block = block; word = word }) ≡ None → block ≡ Control
 nowhere_control Control word none = refl
 nowhere_control WindowEntries word none = impossible (cc)
 nowhere_control ColourMap word none = impossible (cc)

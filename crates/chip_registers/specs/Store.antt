@@ -1,11 +1,9 @@
 -- The store: every block but control, in the table's order.
-use Rattle.std.specs.Prelude.{ℕ, ◌+◌, ◌<◌, Bool, cond, List, [], ◌∷◌, eqb, get_or}
+use Rattle.std.specs.Prelude.{ℕ, ◌+◌, ◌<◌, Bool, cond, List, [], ◌∷◌, eqb, get_or, Option, Some, None}
 use Rattle.chip_registers.specs.Blocks.{blocks, row_of, start, count}
 use Rattle.chip_registers.specs.Kept.{kept_of}
 use Rattle.chip_registers.specs.declared.Block.{Block}
 use Rattle.chip_registers.specs.declared.Register.{Register}
-use Rattle.chip_registers.specs.declared.StorePlace.{StorePlace}
-use Rattle.chip_registers.specs.declared.StorePlace.TheVariants.{At, Nowhere}
 
 -- a block that the store has (CHIP 2.5)
 abbrev pub in_store : Block → Bool
@@ -34,18 +32,18 @@ abbrev pub store_length : ℕ
 store_length = all_words blocks
 
 -- where a register stands in the store: nowhere where its block is not in it (CHIP 2.5)
-abbrev pub store_place : Register → StorePlace
-store_place register = cond (in_store register.block) (At (store_start register.block + register.word)) Nowhere
+abbrev pub store_place : Register → Option ℕ
+store_place register = cond (in_store register.block) (Some (store_start register.block + register.word)) None
 
 -- a place is one of so many words of a store
-abbrev pub Within : ℕ → StorePlace → Type 0
-Within size (At index) = index < size
-Within size Nowhere = ⊥
+abbrev pub Within : ℕ → Option ℕ → Type 0
+Within size (Some index) = index < size
+Within size None = ⊥
 
 -- the kept bits of the word at a register's place in a store (CHIP 2.6)
-abbrev pub stored_at : List ℕ → Register → StorePlace → ℕ
-stored_at store register (At index) = kept_of register (get_or store index 0)
-stored_at store register Nowhere = 0
+abbrev pub stored_at : List ℕ → Register → Option ℕ → ℕ
+stored_at store register (Some index) = kept_of register (get_or store index 0)
+stored_at store register None = 0
 
 -- the kept bits of a register's word in a store (CHIP 2.6)
 abbrev pub stored : List ℕ → Register → ℕ

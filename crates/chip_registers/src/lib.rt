@@ -100,24 +100,6 @@ pub struct Register {
     pub word: u32,
 }
 
-// What an address names.
-#[derive(Drop)]
-pub enum Named {
-    // this register
-    Is(Register),
-    // no register
-    Nothing,
-}
-
-// Where a register stands in the store.
-#[derive(Drop)]
-pub enum StorePlace {
-    // at this word of it
-    At(usize),
-    // nowhere: its block is not in the store
-    Nowhere,
-}
-
 impl Block {
     // Its row of the table.
     pub fn row(self) -> BlockRow
@@ -206,103 +188,96 @@ pub fn place(address: u32) -> u32
 }
 
 // The block that a place is in, if in any: the last that starts at or before it.
+#[tactic(auto, using(crate::proofs::Blocks::alone))]
 fn block_before(place: u32) -> Block
     ensures { (start result ≤ place) × (among blocks place ≡ among (result ∷ []) place) }
 {
     if place < 0x010000 {
-        return Block::Control;
+        Block::Control
+    } else if place < 0x020000 {
+        Block::WindowEntries
+    } else if place < 0x030000 {
+        Block::ColourMap
+    } else if place < 0x040000 {
+        Block::GammaMap
+    } else if place < 0x041000 {
+        Block::CursorGlyph
+    } else {
+        Block::CursorColours
     }
-    if place < 0x020000 {
-        return Block::WindowEntries;
-    }
-    if place < 0x030000 {
-        return Block::ColourMap;
-    }
-    if place < 0x040000 {
-        return Block::GammaMap;
-    }
-    if place < 0x041000 {
-        return Block::CursorGlyph;
-    }
-    Block::CursorColours
 }
 
 // Of a value the bits that control word `word` keeps.
+#[tactic(auto, using(crate::proofs::Kept::kept_switches, crate::proofs::Kept::kept_size, crate::proofs::Kept::kept_pair))]
 fn kept_of_control(word: u32, value: u32) -> u32
     ensures { result ≡ kept_of_control word value }
 {
-    if word == 0 {
-        return words::field(value, 4, 0);
+    match word {
+        0 => words::field(value, 4, 0),
+        7 => words::field(value, 26, 16) * 65536 + words::field(value, 10, 0),
+        _ => words::field(value, 27, 16) * 65536 + words::field(value, 11, 0),
     }
-    if word == 7 {
-        return words::field(value, 26, 16) * 65536 + words::field(value, 10, 0);
-    }
-    words::field(value, 27, 16) * 65536 + words::field(value, 11, 0)
 }
 
 impl Register {
-    // What an address names.
-    pub fn at(address: u32) -> Named
+    // The register that an address names, if it names one.
+    #[tactic(auto, using(crate::proofs::Naming::named_unaligned, crate::proofs::Naming::named_within, crate::proofs::Naming::named_past))]
+    pub fn at(address: u32) -> Option<Self>
         ensures { result ≡ named address }
     {
         let place = place(address);
         if place % 4 != 0 {
-            return Named::Nothing;
+            return None;
         }
         let block = block_before(place);
         let word = (place - block.start()) / 4;
         if word < block.count() {
-            return Named::Is(Self { block, word });
+            Some(Self { block, word })
+        } else {
+            None
         }
-        Named::Nothing
     }
 
     // Of a value the bits that the register keeps.
     pub fn kept(self, value: u32) -> u32
         ensures { result ≡ kept_of self value }
     {
-        let block = self.block;
-        let kept = block.row().kept;
-        match kept {
+        match self.block.row().kept {
             KeptBits::ByField => kept_of_control(self.word, value),
             KeptBits::Lowest(width) => words::bits(value, 0, width),
         }
     }
 
     // Whether a value has no bits but those that the register keeps.
+    #[tactic(auto, unfolding(crate::specs::Kept::fits))]
     pub fn fits(self, value: u32) -> bool
         ensures { result ≡ fits self value }
     {
         self.kept(value) == value
     }
 
-    // Where the register stands in the store.
-    pub fn store_place(self) -> StorePlace
+    // Where the register stands in the store; the registers of a block that is not in it stand nowhere.
+    pub fn store_place(self) -> Option<usize>
         ensures { result ≡ store_place self }
     {
-        let block = self.block;
-        if block.row().stored {
-            return StorePlace::At(block.store_start() + (self.word as usize));
+        if self.block.row().stored {
+            Some(self.block.store_start() + self.word as usize)
+        } else {
+            None
         }
-        StorePlace::Nowhere
     }
 
     // Whether it can only be read: control words 9 and 10.
     pub fn read_only(self) -> bool
         ensures { result ≡ read_only self }
     {
-        let block = self.block;
-        match block {
-            Block::Control => FIRST_READ_ONLY <= self.word,
-            _ => false,
-        }
+        matches!(self.block, Block::Control) && FIRST_READ_ONLY <= self.word
     }
 
     // Whether a write to it waits.
     pub fn waits(self) -> bool
         ensures { result ≡ waits self }
     {
-        let block = self.block;
-        block.row().waits
+        self.block.row().waits
     }
 }

@@ -1,10 +1,11 @@
 -- Clear runs: from a clear position on, the rest of its line is clear up to where horizontal blank comes on. Assumes nothing.
 use Prim.Native.Nat.{ℕ, zero, suc, ◌+◌, ◌≤◌, ◌<◌}
-use mathlib.Core.Path.{◌≡◌, refl, sym}
-use mathlib.Core.Bool.{Bool, true, false, true≢false, ◌&&◌, ◌||◌}
+use mathlib.Core.Path.{◌≡◌}
+use mathlib.Core.Bool.{true, false, true≢false, ◌&&◌}
 use native.Mathlib.Decide.{dec_lt}
 use native.Mathlib.Omega.{arith}
 use borrow.Author.Tests.{eqb-true, ltb-false, lt-ltb, le-ltb, le-leb, lt-leb}
+use Rattle.std.proofs.lemmas.Bool.{and_parts, or_parts}
 use Rattle.words.specs.Field.{field}
 use Rattle.chip_timing.specs.Window.{in_window}
 use Rattle.chip_timing.specs.Signals.{window_holds, is_empty, signals_at}
@@ -45,11 +46,6 @@ module _ (on off x p : ℕ) (on_from : x ≤ p) (before : x < on → p < on) whe
         | no h ↦ elim (dec_lt off on) [ yes wraps ↦ clear_wrapping wraps clear | no g ↦ rw (le-ltb on off (omega arith), le-ltb off on (omega arith)) ]
       ]
 
--- where `or` is false, both are
-neither : (a b : Bool) → a || b ≡ false → (a ≡ false) × (b ≡ false)
-neither true b e = absurd (true≢false e)
-neither false b e = (refl, e)
-
 module _ (ws : Windows) (at : Position) (word : ℕ) (clear : (signals_at ws at).blank ≡ false) where
   -- a clear position by itself is a clear run
   pub run_one : (i : ℕ) → i < 1 → (signals_at ws (position_after at i word)).blank ≡ false
@@ -62,7 +58,7 @@ module _ (ws : Windows) (at : Position) (word : ℕ) (clear : (signals_at ws at)
       → (i : ℕ) → i < run → (signals_at ws (position_after at i word)).blank ≡ false
   unfolding signals_at window_holds
   run_along run within before i h =
-      let dark = neither (window_holds ws.hblank at.x) (window_holds ws.vblank at.y) clear in
+      let dark = or_parts (window_holds ws.hblank at.x) (window_holds ws.vblank at.y) clear in
       rw (
         after_line at i word (omega arith),
         window_clear (field ws.hblank 11 0) (field ws.hblank 27 16) at.x (at.x + i) (omega arith) (λ b. omega (arith, before b)) dark.0,
@@ -80,10 +76,5 @@ empty_holds word p empty =
 pub run_for_ever : (ws : Windows) → (is_empty ws.hblank && is_empty ws.vblank) ≡ true → (at : Position) → (signals_at ws at).blank ≡ false
 unfolding signals_at
 run_for_ever ws empty at =
-    let e = both_hold (is_empty ws.hblank) (is_empty ws.vblank) empty in
+    let e = and_parts (is_empty ws.hblank) (is_empty ws.vblank) empty in
     rw (empty_holds ws.hblank at.x e.0) (empty_holds ws.vblank at.y e.1)
-  where
-    -- where `and` is true, both are
-    both_hold : (a b : Bool) → (a && b) ≡ true → (a ≡ true) × (b ≡ true)
-    both_hold true b e = (refl, e)
-    both_hold false b e = absurd (true≢false (sym e))

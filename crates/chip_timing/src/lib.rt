@@ -9,33 +9,29 @@ ghost use Rattle.chip_timing.specs.Move.{next_position, position_after};
 ghost use Rattle.chip_timing.specs.Walk.{walked};
 
 // Whether p is in the window from on to off.
+#[tactic(auto, unfolding(crate::specs::Window::in_window))]
 pub fn in_window(on: u32, off: u32, p: u32) -> bool
     ensures { result ≡ in_window on off p }
 {
     if on < off {
-        if on <= p { p < off } else { false }
+        on <= p && p < off
     } else if off < on {
-        if on <= p { true } else { p < off }
+        on <= p || p < off
     } else {
         false
     }
 }
 
 // Whether p is in the window of a control word.
+#[tactic(auto, unfolding(crate::specs::Signals::window_holds))]
 fn window_holds(word: u32, p: u32) -> bool
     ensures { result ≡ window_holds word p }
 {
     in_window(words::field(word, 11, 0), words::field(word, 27, 16), p)
 }
 
-// The lesser of two numbers.
-fn lesser(a: u32, b: u32) -> u32
-    ensures { result ≡ min a b }
-{
-    if a < b { a } else { b }
-}
-
 // Whether the window of a control word is empty.
+#[tactic(auto, unfolding(crate::specs::Signals::is_empty))]
 fn is_empty(word: u32) -> bool
     ensures { result ≡ is_empty word }
 {
@@ -54,27 +50,29 @@ pub struct Position {
 
 impl Position {
     // The next position, under control word 1.
+    #[tactic(auto, using(crate::proofs::Move::move_along, crate::proofs::Move::move_down, crate::proofs::Move::move_home))]
     pub fn next(self, total: u32) -> Self
         ensures { result ≡ next_position self total }
     {
         let last_x = words::field(total, 11, 0);
         let last_y = words::field(total, 27, 16);
         if self.x < last_x {
-            return Self {
+            Self {
                 x: self.x + 1,
                 y: self.y,
-            };
-        }
-        if self.y < last_y {
-            return Self {
+            }
+        } else if self.y < last_y {
+            Self {
                 x: 0,
                 y: self.y + 1,
-            };
+            }
+        } else {
+            Self { x: 0, y: 0 }
         }
-        Self { x: 0, y: 0 }
     }
 
     // The position after a run of moves of which only the last may leave the line.
+    #[tactic(auto, using(crate::proofs::After::after_run))]
     fn along(self, run: u32, total: u32) -> Self
         requires { (0 < run) × (min self.x (field total 11 0) + run ≤ field total 11 0 + 1) }
         ensures { result ≡ position_after self run total }
@@ -87,6 +85,7 @@ impl Position {
     }
 
     // The position after so many moves, under control word 1: in closed form.
+    #[tactic(auto, using(crate::proofs::After::after_along, crate::proofs::After::after_ends), unfolding(crate::specs::Move::position_after))]
     pub fn after(self, count: u32, total: u32) -> Self
         ensures { result ≡ position_after self count total }
     {
@@ -95,15 +94,15 @@ impl Position {
         }
         let last_x = words::field(total, 11, 0);
         let last_y = words::field(total, 27, 16);
-        let dots = lesser(self.x, last_x) as u64 + count as u64;
-        let width = last_x as u64 + 1;
+        let dots = u64::from(self.x.min(last_x)) + u64::from(count);
+        let width = u64::from(last_x) + 1;
         let ends = dots / width;
         let x = (dots % width) as u32;
         if ends == 0 {
             return Self { x, y: self.y };
         }
-        let lines = lesser(self.y, last_y) as u64 + ends;
-        let height = last_y as u64 + 1;
+        let lines = u64::from(self.y.min(last_y)) + ends;
+        let height = u64::from(last_y) + 1;
         Self {
             x,
             y: (lines % height) as u32,
@@ -146,20 +145,14 @@ pub struct Windows {
 
 impl Windows {
     // The signals of a position.
+    #[tactic(auto, unfolding(crate::specs::Signals::signals_at))]
     pub fn signals(self, at: Position) -> Signals
         ensures { result ≡ signals_at self at }
     {
-        let hsync = window_holds(self.hsync, at.x);
-        let vsync = window_holds(self.vsync, at.y);
-        let blank = if window_holds(self.hblank, at.x) {
-            true
-        } else {
-            window_holds(self.vblank, at.y)
-        };
         Signals {
-            hsync,
-            vsync,
-            blank,
+            hsync: window_holds(self.hsync, at.x),
+            vsync: window_holds(self.vsync, at.y),
+            blank: window_holds(self.hblank, at.x) || window_holds(self.vblank, at.y),
         }
     }
 
@@ -167,28 +160,27 @@ impl Windows {
     fn never_blank(self) -> bool
         ensures { result ≡ (is_empty self.hblank && is_empty self.vblank) }
     {
-        if !is_empty(self.hblank) {
-            return false;
-        }
-        is_empty(self.vblank)
+        is_empty(self.hblank) && is_empty(self.vblank)
     }
 
     // How many positions of a line are clear, from a clear one on, up to where horizontal blank may come on: at least 1.
+    #[tactic(auto, using(crate::proofs::Run::run_one, crate::proofs::Run::run_along))]
     fn clear_run(self, at: Position, total: u32) -> u32
         ensures { (0 < result) × (min at.x (field total 11 0) + result ≤ field total 11 0 + 1) × ((signals_at self at).blank ≡ false → (i : ℕ) → i < result → (signals_at self (position_after at i total)).blank ≡ false) }
     {
         let last = words::field(total, 11, 0);
         let on = words::field(self.hblank, 11, 0);
         if last <= at.x {
-            return 1;
+            1
+        } else if at.x < on {
+            on.min(last + 1) - at.x
+        } else {
+            last + 1 - at.x
         }
-        if at.x < on {
-            return lesser(on, last + 1) - at.x;
-        }
-        last + 1 - at.x
     }
 
     // On to the first blanked position, by at most so many moves.
+    #[tactic(auto, using(crate::proofs::Run::run_for_ever, crate::proofs::Walked::walk_out, crate::proofs::Walked::walk_here, crate::proofs::Walked::walk_clear_all))]
     pub fn to_blank(self, from: Position, total: u32, most: u32) -> Walk
         ensures { result ≡ walked self from total most }
     {
@@ -201,11 +193,10 @@ impl Windows {
         let mut at = from;
         let mut left = most;
         while left != 0 {
-            let signals = self.signals(at);
-            if signals.blank {
+            if self.signals(at).blank {
                 return Walk { at, left };
             }
-            let run = lesser(self.clear_run(at, total), left);
+            let run = self.clear_run(at, total).min(left);
             at = at.along(run, total);
             left -= run;
         }

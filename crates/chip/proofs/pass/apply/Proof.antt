@@ -6,7 +6,7 @@ use mathlib.Core.List.{List}
 use native.Mathlib.Numerals.{add-one}
 use native.Mathlib.Omega.{arith}
 use borrow.Author.Rules.{rules}
-use lib.ListN.{length, get_or, set, length-map, length-set}
+use lib.ListN.{length, get_or, set, length-set}
 use lib.Seq.{get_or-take}
 use Rattle.chip_registers.specs.Blocks.{count}
 use Rattle.chip_registers.specs.Store.{store_length}

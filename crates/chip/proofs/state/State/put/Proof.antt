@@ -5,7 +5,7 @@ use mathlib.Core.Bool.{Bool, false, ◌&&◌}
 use native.Mathlib.Omega.{arith}
 use borrow.Author.Rules.{rules}
 use borrow.Author.Tests.{leb-false}
-use lib.ListN.{length, length-map}
+use lib.ListN.{length}
 use Rattle.chip_registers.specs.Store.{store_length, store_place}
 use Rattle.chip_registers.specs.Access.{waits}
 use Rattle.chip_registers.specs.declared.Block.TheVariants.{Control}
