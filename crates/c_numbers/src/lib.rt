@@ -21,7 +21,7 @@ pub struct Refused {
 pub fn yes_no(yes: bool) -> u32
     ensures { result ≡ yes_no yes }
 {
-    if yes { 1 } else { 0 }
+    u32::from(yes)
 }
 
 // Nothing is refused.

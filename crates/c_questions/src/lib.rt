@@ -5,20 +5,17 @@ ghost use Rattle.std.specs.Prelude.{◌≡◌};
 ghost use Rattle.c_questions.specs.Questions.{entry_defined, signal_holds, interface_version};
 
 use c_numbers::yes_no;
-use line_colour::entry::Decoded;
 
 // Whether a window entry is defined at a depth: 1 or 0.
+#[tactic(auto, using(line_colour::proofs::Kept::decoded_kept), unfolding(crate::specs::Questions::entry_defined, line_colour::specs::Entry::is_defined))]
 pub fn bulitampaw_entry_defined(entry: u32, depth: u32) -> u32
     ensures { result ≡ entry_defined entry depth }
 {
-    let decoded = line_colour::entry::decode(entry, depth);
-    match decoded {
-        Decoded::Defined(_) => 1,
-        Decoded::Undefined => 0,
-    }
+    yes_no(line_colour::entry::decode(entry, depth).is_some())
 }
 
 // Whether a signal holds at p, by its window from on to off: 1 or 0.
+#[tactic(auto, unfolding(crate::specs::Questions::signal_holds))]
 pub fn bulitampaw_signal_holds(on: u32, off: u32, p: u32) -> u32
     ensures { result ≡ signal_holds on off p }
 {

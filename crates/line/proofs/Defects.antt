@@ -5,6 +5,7 @@ use mathlib.Core.Bool.{Bool, true, false}
 use mathlib.Core.List.{List}
 use native.Mathlib.Omega.{arith}
 use lib.ListN.{length, get_or}
+use Rattle.std.specs.Prelude.{Option, Some, None}
 use Rattle.rules.specs.Rule.{Outcome, ok, refused, run}
 use Rattle.rules.specs.Faults.{Numbered}
 use Rattle.rules.specs.Checked.{checked}
@@ -13,8 +14,6 @@ use Rattle.rules.proofs.Parts.{both}
 use Rattle.rules.proofs.Each.{each_answers}
 use Rattle.line_colour.specs.Entry.{decoded}
 use Rattle.line_colour.specs.declared.entry.WindowEntry.{WindowEntry}
-use Rattle.line_colour.specs.declared.entry.Decoded.{Decoded}
-use Rattle.line_colour.specs.declared.entry.Decoded.TheVariants.{Defined, Undefined}
 use Rattle.line_colour.proofs.EntryBits.{DefinedBits, entry_bits}
 use Rattle.line_windows.specs.Table.{table_view}
 use Rattle.line_windows.specs.Frame.{line_table_of}
@@ -83,9 +82,9 @@ module _ (lent : Lent) (controls : Controls) (y x : ℕ) {start : ℕ} (starts :
       (id, (found_id lent controls y x starts parts.found, entry_bits (get_or lent.store id 0) controls.depth (sym (kept_decoded lent.store id controls.depth) ∙ by (decoded (view lent (window_entry id)) controls.depth) refl parts.next)))
     where
       -- what was answered was defined
-      by : {word : Decoded} (what : Decoded) → word ≡ what → run (view lent) (defined_at x word) ≡ ok entry → word ≡ Defined entry
-      by {word} (Defined said) is e = let told : run (view lent) (defined_at x (Defined said)) ≡ ok entry = rw is at e in cc
-      by {word} Undefined is e = let told : run (view lent) (defined_at x Undefined) ≡ ok entry = rw is at e in impossible (cc)
+      by : {word : Option WindowEntry} (what : Option WindowEntry) → word ≡ what → run (view lent) (defined_at x word) ≡ ok entry → word ≡ Some entry
+      by {word} (Some said) is e = let told : run (view lent) (defined_at x (Some said)) ≡ ok entry = rw is at e in cc
+      by {word} None is e = let told : run (view lent) (defined_at x None) ≡ ok entry = rw is at e in impossible (cc)
 
 -- ---- the whole line
 

@@ -11,25 +11,20 @@ use Rattle.rules.specs.Rule.{Rule, Outcome, ok, refused, run}
 use Rattle.rules.specs.Faults.{Numbered}
 use Rattle.rules.proofs.Cases.{le_or_lt}
 use Rattle.rules.proofs.Then.{renamed, run_ok, run_refused, run_within}
-use Rattle.refusals.specs.Refusal.{numbered}
+use Rattle.refusals.specs.Refusal.{numbered, outcome_of}
 use Rattle.refusals.specs.declared.Refusal.{Refusal}
 use Rattle.refusals.specs.declared.Refusal.TheVariants.{UndefinedEntry}
 use Rattle.line_colour.specs.Entry.{decoded}
 use Rattle.line_colour.specs.declared.entry.WindowEntry.{WindowEntry}
-use Rattle.line_colour.specs.declared.entry.Decoded.{Decoded}
-use Rattle.line_colour.specs.declared.entry.Decoded.TheVariants.{Defined, Undefined}
+use Rattle.std.specs.Prelude.{Option, Some, None, Result, Ok, Err, IfOk}
 use Rattle.line_colour.proofs.Kept.{decoded_kept}
 use Rattle.chip_registers.specs.Store.{stored}
 use Rattle.chip_registers.specs.declared.Block.TheVariants.{WindowEntries}
 use Rattle.line_windows.specs.Table.{TableCell, table_view}
-use Rattle.line_windows.specs.Frame.{line_table_of, line_table_outcome}
+use Rattle.line_windows.specs.Frame.{line_table_of}
 use Rattle.line_windows.specs.Ids.{id_of}
-use Rattle.line_windows.specs.Carried.{found_from, look_up_outcome, id_below}
-use Rattle.line_windows.specs.declared.frame.LineTable.{LineTable}
-use Rattle.line_windows.specs.declared.frame.LineTable.TheVariants.{Starts, Refused as NoTable}
+use Rattle.line_windows.specs.Carried.{found_from}
 use Rattle.line_windows.specs.declared.ids.FoundId.{FoundId}
-use Rattle.line_windows.specs.declared.ids.LookedUp.{LookedUp}
-use Rattle.line_windows.specs.declared.ids.LookedUp.TheVariants.{Id, Refused as NoId}
 use Rattle.line_windows.proofs.Pixels.{found_serves, refused_serves}
 use Rattle.line_setup.specs.declared.controls.Controls.{Controls}
 use Rattle.line.specs.Cells.{Lent, lent_of, view}
@@ -61,30 +56,30 @@ run_in_table lent rule = run_within _ _ (view lent) rule ∙ renamed_same _
 
 module _ (controls : Controls) (table : List ℕ) where
   -- where the line table starts, window IDs on
-  pub start_on : (y : ℕ) (found : LineTable) → controls.ids ≡ true
-      → line_table_outcome found ≡ run (table_view table) (line_table_of (length table) y) → StartAnswer controls table y found
+  pub start_on : (y : ℕ) (found : Result ℕ Refusal) → controls.ids ≡ true
+      → outcome_of found ≡ run (table_view table) (line_table_of (length table) y) → StartAnswer controls table y found
   unfolding start_of
-  start_on y (Starts byte) on says = λ store normal overlay. rw on (run_in_table (lent_of store table normal overlay) (line_table_of (length table) y) ∙ sym says)
-  start_on y (NoTable refusal) on says = λ store normal overlay. rw on (run_in_table (lent_of store table normal overlay) (line_table_of (length table) y) ∙ sym says)
+  start_on y (Ok byte) on says = λ store normal overlay. rw on (run_in_table (lent_of store table normal overlay) (line_table_of (length table) y) ∙ sym says)
+  start_on y (Err refusal) on says = λ store normal overlay. rw on (run_in_table (lent_of store table normal overlay) (line_table_of (length table) y) ∙ sym says)
 
   -- off, there is none
-  pub start_off : (y : ℕ) → controls.ids ≡ false → StartAnswer controls table y (Starts 0)
+  pub start_off : (y : ℕ) → controls.ids ≡ false → StartAnswer controls table y (Ok 0)
   unfolding start_of
   start_off y off = λ store normal overlay. rw off refl
 
   module _ (start from x : ℕ) where
     -- a pixel's ID, window IDs on
-    pub served_on : (found : LookedUp) → controls.ids ≡ true → PassedAt controls table start from x
-        → look_up_outcome found ≡ run (table_view table) (found_from (length table) start from x) → id_below found → Served controls table start x found
+    pub served_on : (found : Result FoundId Refusal) → controls.ids ≡ true → PassedAt controls table start from x
+        → outcome_of found ≡ run (table_view table) (found_from (length table) start from x) → IfOk found (λ has. has.id < 32) → Served controls table start x found
     unfolding id_at
-    served_on (Id found) on passed says below =
+    served_on (Ok found) on passed says below =
         let serves = found_serves (table_view table) (length table) start from x (passed on) (sym says) in (
           below,
           serves.reaches,
           λ again. serves.passed,
           λ store normal overlay p low high. rw on (run_in_table (lent_of store table normal overlay) (id_of (length table) start p) ∙ serves.ids p low high),
         )
-    served_on (NoId refusal) on passed says below =
+    served_on (Err refusal) on passed says below =
         λ store normal overlay.
         rw on
         (run_in_table (lent_of store table normal overlay) (id_of (length table) start x)
@@ -110,27 +105,27 @@ module _ (controls : Controls) (lent : Lent) (start x : ℕ) where
 
   module _ {id : ℕ} (found : run (view lent) (id_at controls (length lent.table) start x) ≡ ok id) where
     -- the decoder decides
-    by_decoded : {what : Decoded} → decoded (get_or lent.store id 0) controls.depth ≡ what
+    by_decoded : {what : Option WindowEntry} → decoded (get_or lent.store id 0) controls.depth ≡ what
         → run (view lent) (window_entry_at controls (length lent.table) start x) ≡ run (view lent) (defined_at x what)
     unfolding window_entry_at
     by_decoded e =
         run_ok (view lent) (id_at controls (length lent.table) start x) _ found
-        ∙ ap (λ (what : Decoded). run (view lent) (defined_at x what)) (kept_decoded lent.store id controls.depth ∙ e)
+        ∙ ap (λ (what : Option WindowEntry). run (view lent) (defined_at x what)) (kept_decoded lent.store id controls.depth ∙ e)
 
     -- an ID and a defined entry
-    pub entry_defined : {entry : WindowEntry} → decoded (get_or lent.store id 0) controls.depth ≡ Defined entry
+    pub entry_defined : {entry : WindowEntry} → decoded (get_or lent.store id 0) controls.depth ≡ Some entry
         → run (view lent) (window_entry_at controls (length lent.table) start x) ≡ ok entry
     entry_defined e = by_decoded e
 
     -- an ID and an undefined entry: 9
-    pub entry_undefined : decoded (get_or lent.store id 0) controls.depth ≡ Undefined
+    pub entry_undefined : decoded (get_or lent.store id 0) controls.depth ≡ None
         → run (view lent) (window_entry_at controls (length lent.table) start x) ≡ refused (numbered (UndefinedEntry x))
     entry_undefined e = by_decoded e
 
 -- what the look-up answered for pixel x, and the decoder for the window entry of its ID
-module _ (controls : Controls) (store table : List ℕ) (start x : ℕ) (found : FoundId) (served : Served controls table start x (Id found)) where
+module _ (controls : Controls) (store table : List ℕ) (start x : ℕ) (found : FoundId) (served : Served controls table start x (Ok found)) where
   -- an entry that is defined: the run that ends where the line entry does, or the line
-  pub run_of : (entry : WindowEntry) (end : ℕ) → decoded (get_or store found.id 0) controls.depth ≡ Defined entry → x < controls.width
+  pub run_of : (entry : WindowEntry) (end : ℕ) → decoded (get_or store found.id 0) controls.depth ≡ Some entry → x < controls.width
       → EndsRun controls.width found.last end → RunOf controls store table start x entry end found.next
   run_of entry end says inside ends =
       let all_have : (normal overlay : List ℕ) (p : ℕ) → x ≤ p → p ≤ found.last
@@ -156,11 +151,11 @@ module _ (controls : Controls) (store table : List ℕ) (start x : ℕ) (found :
       (le_or_lt controls.width found.last)
 
   -- an undefined entry: 9
-  pub run_undefined : decoded (get_or store found.id 0) controls.depth ≡ Undefined → NoRun controls store table start x (UndefinedEntry x)
+  pub run_undefined : decoded (get_or store found.id 0) controls.depth ≡ None → NoRun controls store table start x (UndefinedEntry x)
   run_undefined says normal overlay =
       entry_undefined controls (lent_of store table normal overlay) start x (served.3 store normal overlay x (omega arith) served.1) says
 
 -- no ID: that refusal
-pub run_no_id : (controls : Controls) (store table : List ℕ) (start x : ℕ) (refusal : Refusal) → Served controls table start x (NoId refusal) → NoRun controls store table start x refusal
+pub run_no_id : (controls : Controls) (store table : List ℕ) (start x : ℕ) (refusal : Refusal) → Served controls table start x (Err refusal) → NoRun controls store table start x refusal
 run_no_id controls store table start x refusal served normal overlay =
     entry_no_id controls (lent_of store table normal overlay) start x (served store normal overlay)

@@ -5,6 +5,7 @@ use mathlib.Core.Bool.{Bool, true, false, cond}
 use mathlib.Core.List.{List}
 use native.Mathlib.Omega.{arith}
 use lib.ListN.{length, get_or}
+use Rattle.std.specs.Prelude.{Option, Some, None}
 use Rattle.rules.specs.Rule.{Rule, done, Outcome, ok, refused, run, ◌>>=◌}
 use Rattle.rules.specs.Faults.{Numbered}
 use Rattle.rules.specs.Each.{each}
@@ -17,8 +18,6 @@ use Rattle.rules.proofs.Asks.{NeverRefuses, never_refused, never_each_of}
 use Rattle.rules.proofs.Value.{never_within}
 use Rattle.line_colour.specs.Entry.{decoded}
 use Rattle.line_colour.specs.declared.entry.WindowEntry.{WindowEntry}
-use Rattle.line_colour.specs.declared.entry.Decoded.{Decoded}
-use Rattle.line_colour.specs.declared.entry.Decoded.TheVariants.{Defined, Undefined}
 use Rattle.line_colour.proofs.Kept.{decoded_kept}
 use Rattle.line_pixels.specs.Colour.{colour_of_pixel}
 use Rattle.line_windows.specs.Table.{TableCell, table_view}
@@ -177,9 +176,9 @@ module _ (lent given : Lent) (table : lent.table ≡ given.table)
           by false e = let none : 0 ≡ id = cc in omega arith
 
       -- what an entry says comes to the same
-      said_alike : (what : Decoded) → run (view lent) (defined_at x what) ≡ run (view given) (defined_at x what)
-      said_alike (Defined entry) = refl
-      said_alike Undefined = refl
+      said_alike : (what : Option WindowEntry) → run (view lent) (defined_at x what) ≡ run (view given) (defined_at x what)
+      said_alike (Some entry) = refl
+      said_alike None = refl
 
       -- so does a pixel's window entry
       entry_alike : run (view lent) (window_entry_at controls table_bytes start x) ≡ run (view given) (window_entry_at controls table_bytes start x)
@@ -194,7 +193,7 @@ module _ (lent given : Lent) (table : lent.table ≡ given.table)
           ∙ ap (λ (word : ℕ). decoded word depth) kept
           ∙ decoded_kept (get_or given.store id 0) depth
           ∙ sym (kept_decoded given.store id depth) in
-          said_alike (decoded (view lent (window_entry id)) depth) ∙ ap (λ (what : Decoded). run (view given) (defined_at x what)) same)
+          said_alike (decoded (view lent (window_entry id)) depth) ∙ ap (λ (what : Option WindowEntry). run (view given) (defined_at x what)) same)
 
   -- so does every check
   checks_alike : (setup : Setup) → run (view lent) (checks_of setup) ≡ run (view given) (checks_of setup)

@@ -20,7 +20,7 @@ use Rattle.line_setup.specs.Faults.{normal_length, line_faults}
 use Rattle.line_setup.specs.declared.controls.Controls.{Controls}
 use Rattle.line_setup.specs.declared.setup.Setup.{Setup}
 use Rattle.line.specs.Cells.{Cell, Lent, lent_of, view}
-use Rattle.line.specs.Line.{start_of, id_at, window_entry_at, line_rule}
+use Rattle.line.specs.Line.{start_of, id_at, window_entry_at}
 
 -- the ranges of width and depth
 pub record InRange (controls : Controls) : Type 0 where
@@ -77,11 +77,6 @@ pub record Drawable (setup : Setup) (store table : List ℕ) (start : ℕ) : Typ
   pub fit : verdict (line_faults setup) ≡ ok tt
   pub starts : Over store table (λ memory. run memory (start_of setup.controls (length table) setup.y) ≡ ok start)
   pub entries : Entries setup.controls store table start
-
--- what all checks answer: that, or the line's refusal
-abbrev pub CheckedAnswer : Setup → List ℕ → List ℕ → Result ℕ Refusal → Type 0
-CheckedAnswer setup store table (Ok byte) = Drawable setup store table byte
-CheckedAnswer setup store table (Err refusal) = Over store table (λ memory. run memory (line_rule setup) ≡ refused (numbered refusal))
 
 -- the colour of a pixel, by what was found of its window entry
 abbrev pub colour_by : (PixelCell → ℕ) → Screen → ℕ → Outcome Numbered WindowEntry → ℕ
