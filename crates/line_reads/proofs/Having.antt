@@ -2,13 +2,12 @@
 use Prim.Native.Nat.{ℕ}
 use mathlib.Core.Path.{◌≡◌, refl, sym, ap, subst, ◌∙◌}
 use mathlib.Core.Bool.{Bool, true, false}
+use Rattle.std.specs.Prelude.{Option, Some, None}
 use Rattle.rules.specs.Rule.{ok, run}
 use Rattle.rules.proofs.Cases.{impossible}
 use Rattle.rules.proofs.Then.{run_ok}
 use Rattle.rules.proofs.Parts.{both}
 use Rattle.line_colour.specs.Entry.{decoded}
-use Rattle.line_colour.specs.declared.entry.Decoded.{Decoded}
-use Rattle.line_colour.specs.declared.entry.Decoded.TheVariants.{Defined, Undefined}
 use Rattle.line_colour.specs.declared.entry.WindowEntry.{WindowEntry}
 use Rattle.line_windows.specs.Table.{table_view}
 use Rattle.line_windows.proofs.Answers.{id_of_entry, id_answered}
@@ -49,9 +48,9 @@ module _ (setup : Setup) (lent : Lent) where
         ∙ ap ok (sym is))
 
     -- what a window entry says that is defined
-    said_defined : (said : Decoded) {entry : WindowEntry} → run (view lent) (defined_at x said) ≡ ok entry → said ≡ Defined entry
-    said_defined (Defined other) e = cc
-    said_defined Undefined e = impossible (cc)
+    said_defined : (said : Option WindowEntry) {entry : WindowEntry} → run (view lent) (defined_at x said) ≡ ok entry → said ≡ Some entry
+    said_defined (Some other) e = cc
+    said_defined None e = impossible (cc)
 
     -- the window entry that the rule finds is the pixel's
     pub entry_has : {entry : WindowEntry} → run (view lent) (entering setup lent start x) ≡ ok entry → HasEntry setup lent x entry
@@ -68,7 +67,7 @@ module _ (setup : Setup) (lent : Lent) where
     pub has_entry : {entry : WindowEntry} → HasEntry setup lent x entry → run (view lent) (entering setup lent start x) ≡ ok entry
     unfolding window_entry_at
     has_entry at =
-        run_ok (view lent) (identifying setup lent start x) _ (has_id at.has) ∙ ap (λ (said : Decoded). run (view lent) (defined_at x said)) at.says
+        run_ok (view lent) (identifying setup lent start x) _ (has_id at.has) ∙ ap (λ (said : Option WindowEntry). run (view lent) (defined_at x said)) at.says
 
   -- a pixel has one window entry
   pub one_entry : {x : ℕ} {entry other : WindowEntry} → HasEntry setup lent x entry → HasEntry setup lent x other → entry ≡ other

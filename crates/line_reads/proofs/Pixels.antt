@@ -4,6 +4,7 @@ use mathlib.Core.Path.{◌≡◌, refl, sym, ap, subst, ◌∙◌}
 use mathlib.Core.Bool.{Bool, true, false}
 use mathlib.Core.List.Memᴰ
 use mathlib.Core.Logic.{⊎_elim}
+use Rattle.std.specs.Prelude.{Option}
 use Rattle.rules.specs.Rule.{Rule, ok, refused, run, reads, get, ◌>>=◌}
 use Rattle.rules.specs.Faults.{Numbered, place_in}
 use Rattle.rules.proofs.Cases.{impossible}
@@ -13,7 +14,6 @@ use Rattle.rules.proofs.Asks.{asks_reads}
 use Rattle.refusals.specs.Refusal.{numbered}
 use Rattle.refusals.specs.declared.Refusal.TheVariants.{NoLineEntry, UndefinedEntry}
 use Rattle.line_colour.specs.Entry.{decoded}
-use Rattle.line_colour.specs.declared.entry.Decoded.{Decoded}
 use Rattle.line_colour.specs.declared.entry.WindowEntry.{WindowEntry}
 use Rattle.line_windows.specs.Table.{TableCell, table_view}
 use Rattle.line_windows.specs.Ids.{line_entries, end_of, id_cell, line_entry_of, id_of}
@@ -93,7 +93,7 @@ module _ (setup : Setup) (lent : Lent) (start : ℕ) where
             absurd (Memᴰ.not-nil (subst (λ (rule : Rule Numbered Cell ℕ). Among cell (reads (view lent) rule)) (id_off setup lent off start x) here))
 
     -- what a window entry says asks for nothing more
-    said_read : (said : Decoded) {cell : Cell} → Among cell (reads (view lent) (defined_at x said)) → ⊥
+    said_read : (said : Option WindowEntry) {cell : Cell} → Among cell (reads (view lent) (defined_at x said)) → ⊥
     said_read said {cell} here = asks_reads (λ _. ⊥) (view lent) (defined_at x said) (asks_nothing _ x said) cell here
 
     -- a pixel that has an ID reads these cells, whatever comes of its window entry
@@ -143,7 +143,7 @@ module _ (setup : Setup) (lent : Lent) (start : ℕ) where
         refusal_named (table_view lent.table) (numbered (NoLineEntry x)) (end_of start) (id_cell start) (line_entries setup.lengths.table start) x lacks.none
 
     -- a window entry that refuses does so by 9
-    said_refusal : (said : Decoded) {refusal : Numbered} → run (view lent) (defined_at x said) ≡ refused refusal → refusal ≡ numbered (UndefinedEntry x)
+    said_refusal : (said : Option WindowEntry) {refusal : Numbered} → run (view lent) (defined_at x said) ≡ refused refusal → refusal ≡ numbered (UndefinedEntry x)
     said_refusal said e = (refuses_undefined (view lent) x said e).1
 
     -- a pixel is refused for no other reason

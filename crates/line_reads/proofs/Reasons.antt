@@ -3,6 +3,7 @@ use Prim.Native.Nat.{ℕ}
 use mathlib.Core.Path.{◌≡◌, refl, sym, ap, ◌∙◌}
 use mathlib.Core.List.{List}
 use native.Mathlib.Omega.{arith}
+use Rattle.std.specs.Prelude.{Option}
 use Rattle.rules.specs.Rule.{Outcome, ok, refused, run}
 use Rattle.rules.specs.Faults.{Numbered, Clear}
 use Rattle.rules.specs.Checked.{verdict}
@@ -14,7 +15,6 @@ use Rattle.rules.proofs.Asks.{never_refused}
 use Rattle.rules.proofs.Checked.{verdict_clear, verdict_first, first_verdict, clear_verdict}
 use Rattle.refusals.specs.Refusal.{numbered}
 use Rattle.refusals.specs.declared.Refusal.TheVariants.{NoFrameEntry, NoLineEntry, UndefinedEntry}
-use Rattle.line_colour.specs.declared.entry.Decoded.{Decoded}
 use Rattle.line_windows.specs.Table.{yend, table_view}
 use Rattle.line_windows.specs.Frame.{frame_entries, line_table_of}
 use Rattle.line_windows.specs.Ids.{line_entries, end_of}
@@ -139,7 +139,7 @@ module _ (setup : Setup) (lent : Lent) where
   entry_refuses x comes at =
       let start = has_start setup lent at.has in
       pixel_decides start.1 x comes
-      (run_ok (view lent) (identifying setup lent start.0 x) _ (has_id setup lent start.1 x at.has) ∙ ap (λ (entry : Decoded). run (view lent) (defined_at x entry)) at.says)
+      (run_ok (view lent) (identifying setup lent start.0 x) _ (has_id setup lent start.1 x at.has) ∙ ap (λ (entry : Option WindowEntry). run (view lent) (defined_at x entry)) at.says)
 
   -- a line is refused for each reason
   pub for_refused : {refusal : Numbered} → Reason setup lent refusal → line_of setup lent ≡ refused refusal

@@ -1,11 +1,10 @@
 -- What a line is refused for, in the paper's order: 11, 10, 6 and 5 by what it goes by alone, 7, and then left to right 8 before 9.
-use Rattle.std.specs.Prelude.{ℕ, ◌+◌, ◌*◌, ◌<◌, ◌≡◌, true}
+use Rattle.std.specs.Prelude.{ℕ, ◌+◌, ◌*◌, ◌<◌, ◌≡◌, true, None}
 use Rattle.rules.specs.Faults.{Numbered, Clear, First}
 use Rattle.refusals.specs.Refusal.{numbered}
 use Rattle.refusals.specs.declared.Refusal.TheVariants.{NoFrameEntry, NoLineEntry, UndefinedEntry}
 use Rattle.line_colour.specs.Entry.{decoded}
 use Rattle.line_colour.specs.declared.entry.WindowEntry.{WindowEntry}
-use Rattle.line_colour.specs.declared.entry.Decoded.TheVariants.{Undefined}
 use Rattle.line_windows.specs.Table.{yend, xend, table_view}
 use Rattle.line_setup.specs.Faults.{line_faults}
 use Rattle.line_setup.specs.declared.setup.Setup.{Setup}
@@ -28,7 +27,7 @@ module _ (setup : Setup) (lent : Lent) where
   pub record UndefinedAt (x : ℕ) : Type 0 where
     pub id : ℕ
     pub has : HasId setup lent x id
-    pub says : decoded (view lent (window_entry id)) setup.controls.depth ≡ Undefined
+    pub says : decoded (view lent (window_entry id)) setup.controls.depth ≡ None
 
   -- a line that comes to pixel x: the pixel is active, and each one before it has a window entry that is defined (CHIP 8.2)
   pub record ComesTo (x : ℕ) : Type 0 where

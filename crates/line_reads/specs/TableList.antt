@@ -1,8 +1,7 @@
 -- Table and window entries that a line reads, as the paper lists them, by how far its searches go and how many pixels it meets; which entry serves is said in the paper's own words and numbers, without the rule of a line.
-use Rattle.std.specs.Prelude.{ℕ, suc, ◌+◌, ◌*◌, ◌/◌, ◌≤◌, ◌<◌, ◌≡◌, true, false}
+use Rattle.std.specs.Prelude.{ℕ, suc, ◌+◌, ◌*◌, ◌/◌, ◌≤◌, ◌<◌, ◌≡◌, true, false, Some}
 use Rattle.line_colour.specs.Entry.{decoded}
 use Rattle.line_colour.specs.declared.entry.WindowEntry.{WindowEntry}
-use Rattle.line_colour.specs.declared.entry.Decoded.TheVariants.{Defined}
 use Rattle.line_windows.specs.Table.{TableCell, yend, line_table, xend, window_id, table_view}
 use Rattle.line_setup.specs.declared.setup.Setup.{Setup}
 use Rattle.line.specs.Cells.{window_entry, Lent, view}
@@ -53,7 +52,7 @@ module _ (setup : Setup) (lent : Lent) where
   pub record HasEntry (x : ℕ) (entry : WindowEntry) : Type 0 where
     pub id : ℕ
     pub has : HasId x id
-    pub says : decoded (view lent (window_entry id)) setup.controls.depth ≡ Defined entry
+    pub says : decoded (view lent (window_entry id)) setup.controls.depth ≡ Some entry
 
   -- ---- frame entries
 

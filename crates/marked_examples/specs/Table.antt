@@ -1,5 +1,5 @@
 -- The marked examples (a) to (l), over the definitions that the contracts cite.
-use Rattle.std.specs.Prelude.{ℕ, ◌+◌, ◌*◌, ◌%◌, ◌<◌, ◌≡◌, Bool, true, false, List, [], ◌∷◌, ◌++◌, length}
+use Rattle.std.specs.Prelude.{ℕ, ◌+◌, ◌*◌, ◌%◌, ◌<◌, ◌≡◌, Bool, true, false, List, [], ◌∷◌, ◌++◌, length, Some, None}
 use Rattle.rules.specs.Rule.{Rule, Outcome, ok, run, reads, value}
 use Rattle.rules.specs.Lists.{values}
 use Rattle.rules.specs.Faults.{Numbered}
@@ -9,7 +9,6 @@ use Rattle.line_formats.specs.Table.{widths_of}
 use Rattle.line_colour.specs.Entry.{bank_of, decoded}
 use Rattle.line_colour.specs.Shown.{sample_of, shown_of}
 use Rattle.line_colour.specs.declared.entry.WindowEntry.{WindowEntry}
-use Rattle.line_colour.specs.declared.entry.Decoded.TheVariants.{Defined, Undefined}
 use Rattle.line_colour.specs.declared.entry.Shown.TheVariants.{MapEntry}
 use Rattle.chip_registers.specs.Store.{stored}
 use Rattle.chip_registers.specs.declared.Block.TheVariants.{ColourMap, CursorGlyph}
@@ -47,11 +46,11 @@ map_word store word = stored store (record { block = ColourMap; word = word })
 
 -- a window entry, with this bank, is defined at a depth
 abbrev pub DefinedWithBank : ℕ → ℕ → ℕ → Type 0
-DefinedWithBank depth word bank = (entry : WindowEntry) × (decoded word depth ≡ Defined entry) × (entry.bank ≡ bank)
+DefinedWithBank depth word bank = (entry : WindowEntry) × (decoded word depth ≡ Some entry) × (entry.bank ≡ bank)
 
 -- a window entry, with this bank, is undefined at a depth
 abbrev pub UndefinedWithBank : ℕ → ℕ → ℕ → Type 0
-UndefinedWithBank depth word bank = (decoded word depth ≡ Undefined) × (bank_of word ≡ bank)
+UndefinedWithBank depth word bank = (decoded word depth ≡ None) × (bank_of word ≡ bank)
 
 -- the window entry with this buffer, format and bank, and no other bit
 abbrev pub entry_with : ℕ → ℕ → ℕ → ℕ
@@ -68,7 +67,7 @@ RowShows depth entry bytes shown =
 abbrev pub ShowsAt : ℕ → ℕ → ℕ → List ℕ → ℕ → Type 0
 ShowsAt depth word pixel bytes shown =
     (pixel_word depth bytes 0 ≡ pixel)
-    × (entry : WindowEntry) × (decoded word depth ≡ Defined entry) × (shown_of entry (sample_of entry pixel) ≡ MapEntry shown) × RowShows depth entry bytes shown
+    × (entry : WindowEntry) × (decoded word depth ≡ Some entry) × (shown_of entry (sample_of entry pixel) ≡ MapEntry shown) × RowShows depth entry bytes shown
 
 -- the ID of pixel x, by the line table at byte 0 of a table
 abbrev pub id_in : List ℕ → ℕ → Outcome Numbered ℕ
