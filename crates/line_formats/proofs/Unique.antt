@@ -7,10 +7,12 @@ use Rattle.line_formats.proofs.Rgb332RgbFormat.colour.Reads as rgb332_colour
 use Rattle.line_formats.proofs.Rgb444RgbFormat.colour.Reads as rgb444_colour
 use Rattle.line_formats.proofs.Rgb555RgbFormat.colour.Reads as rgb555_colour
 use Rattle.line_formats.proofs.Rgb888RgbFormat.colour.Reads as rgb888_colour
-use Rattle.line_formats.proofs.Rgb332RgbFormat.widths.Reads as rgb332_widths
-use Rattle.line_formats.proofs.Rgb444RgbFormat.widths.Reads as rgb444_widths
-use Rattle.line_formats.proofs.Rgb555RgbFormat.widths.Reads as rgb555_widths
-use Rattle.line_formats.proofs.Rgb888RgbFormat.widths.Reads as rgb888_widths
+use Rattle.line_formats.proofs.Index8PixelFormat.widths.Reads as index8_widths
+use Rattle.line_formats.proofs.Index12PixelFormat.widths.Reads as index12_widths
+use Rattle.line_formats.proofs.Rgb332PixelFormat.widths.Reads as rgb332_widths
+use Rattle.line_formats.proofs.Rgb444PixelFormat.widths.Reads as rgb444_widths
+use Rattle.line_formats.proofs.Rgb555PixelFormat.widths.Reads as rgb555_widths
+use Rattle.line_formats.proofs.Rgb888PixelFormat.widths.Reads as rgb888_widths
 use Rattle.line_formats.proofs.Part.has_depth.Reads as has_depth
 use Rattle.line_formats.proofs.Part.has_buffer.Reads as has_buffer
 use Rattle.line_formats.proofs.Format.from_number.Reads as from_number
@@ -44,6 +46,14 @@ rgb555_colour_unique = by_equation _ _
 -- a sample of RGB 8-8-8 has one colour
 pub rgb888_colour_unique : OneAnswer rgb888_colour.Post
 rgb888_colour_unique = by_equation _ _
+
+-- the bits of format 0 are pinned
+pub index8_widths_unique : OneAnswer index8_widths.Post
+index8_widths_unique = by_equation _ _
+
+-- the bits of format 1 are pinned
+pub index12_widths_unique : OneAnswer index12_widths.Post
+index12_widths_unique = by_equation _ _
 
 -- the bits of RGB 3-3-2 are pinned
 pub rgb332_widths_unique : OneAnswer rgb332_widths.Post

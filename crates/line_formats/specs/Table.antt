@@ -1,5 +1,5 @@
 -- The table of pixel formats.
-use Rattle.std.specs.Prelude.{ℕ, ◌+◌, ◌*◌, ◌≤◌, ◌≡◌, Bool, true, false, cond, List, [], ◌∷◌, Option, Some, None, eqb, leb, get_or}
+use Rattle.std.specs.Prelude.{ℕ, ◌*◌, ◌+◌, ◌≤◌, ◌≡◌, Bool, true, false, cond, List, [], ◌∷◌, Option, Some, None, eqb, leb, get_or}
 use Rattle.words.specs.Field.{bits}
 use Rattle.words.specs.declared.Rgb.{Rgb}
 use Rattle.line_formats.specs.Channel.{colour_by_widths}
@@ -78,9 +78,10 @@ entry_in_bank bank value = 256 * bank + value
 abbrev pub colour_in_format : Format → ℕ → Rgb
 colour_in_format format sample = colour_by_widths sample (widths_of format).red (widths_of format).green (widths_of format).blue
 
--- a format has three channels of so many bits, each of 1 to 8, and no other bits (CHIP 5.2, 5.6)
-pub record IsRgb (format : Format) (red green blue : ℕ) : Type 0 where
-  pub bits : widths_of format ≡ record { bits = red + green + blue; red = red; green = green; blue = blue }
-  pub red_fits : (1 ≤ red) × (red ≤ 8)
-  pub green_fits : (1 ≤ green) × (green ≤ 8)
-  pub blue_fits : (1 ≤ blue) × (blue ≤ 8)
+-- the bits of a format are these (CHIP 5.2)
+abbrev pub HasWidths : Format → ℕ → ℕ → ℕ → ℕ → Type 0
+HasWidths format used red green blue = widths_of format ≡ record { bits = used; red = red; green = green; blue = blue }
+
+-- each of three channels has 1 to 8 bits (CHIP 5.6)
+abbrev pub HasChannels : ℕ → ℕ → ℕ → Type 0
+HasChannels red green blue = (1 ≤ red) × (red ≤ 8) × (1 ≤ green) × (green ≤ 8) × (1 ≤ blue) × (blue ≤ 8)

@@ -5,19 +5,93 @@ mod channel;
 
 ghost use Rattle.std.specs.Prelude.{ℕ, ◌≡◌};
 ghost use Rattle.std.proofs.Common.{rules};
-ghost use Rattle.line_formats.specs.Table.{format_of_number, widths_of, part_at, has_depth, has_buffer, has_bank, value_of, entry_in_bank, colour_in_format, IsRgb};
+ghost use Rattle.line_formats.specs.Table.{format_of_number, widths_of, part_at, has_depth, has_buffer, has_bank, value_of, entry_in_bank, colour_in_format, HasWidths, HasChannels};
 ghost use Rattle.line_formats.specs.declared.Format.{Format};
-ghost use Rattle.line_formats.specs.declared.Format.TheVariants.{Rgb332 as Format332, Rgb444 as Format444, Rgb555 as Format555, Rgb888 as Format888};
+ghost use Rattle.line_formats.specs.declared.Format.TheVariants.{Index8 as FormatIndex8, Index12 as FormatIndex12, Rgb332 as Format332, Rgb444 as Format444, Rgb555 as Format555, Rgb888 as Format888};
 
 use words::Rgb;
+
+// A pixel format, with its bits.
+pub trait PixelFormat {
+    // Which format of the table it is.
+    ghost format: { Format };
+
+    // The bits of a sample.
+    const BITS: u32;
+
+    // The bits of its red, from bit 0 up.
+    const RED: u32;
+
+    // The bits of its green, above red.
+    const GREEN: u32;
+
+    // The bits of its blue, above green.
+    const BLUE: u32;
+
+    ghost BITS: { ℕ };
+
+    ghost RED: { ℕ };
+
+    ghost GREEN: { ℕ };
+
+    ghost BLUE: { ℕ };
+
+    // The bits of a sample and of its channels.
+    fn widths() -> Widths
+        ensures { result ≡ widths_of format }
+    {
+        Widths {
+            bits: Self::BITS,
+            red: Self::RED,
+            green: Self::GREEN,
+            blue: Self::BLUE,
+        }
+    }
+
+    // The table says the same bits.
+    ghost listed: { HasWidths format BITS RED GREEN BLUE };
+}
+
+// A format whose samples have three channels.
+pub trait RgbFormat: PixelFormat {
+    // The colour of a sample.
+    fn colour(sample: u32) -> Rgb
+        ensures { result ≡ colour_in_format Self.format sample }
+    {
+        channel::colour(sample, Self::RED, Self::GREEN, Self::BLUE)
+    }
+
+    // Each channel has 1 to 8 bits.
+    ghost channels: { HasChannels Self.RED Self.GREEN Self.BLUE };
+}
 
 // Format 0: an 8-bit index within a bank of the map.
 #[derive(Clone, Copy)]
 pub struct Index8;
 
-impl Index8 {
-    pub const BITS: u32 = 8;
+impl PixelFormat for Index8 {
+    ghost format = { FormatIndex8 };
 
+    const BITS: u32 = 8;
+
+    const RED: u32 = 0;
+
+    const GREEN: u32 = 0;
+
+    const BLUE: u32 = 0;
+
+    ghost BITS = { 8 };
+
+    ghost RED = { 0 };
+
+    ghost GREEN = { 0 };
+
+    ghost BLUE = { 0 };
+
+    ghost listed = { Prim.search rules };
+}
+
+impl Index8 {
     // The entries of a bank.
     pub const BANK_ENTRIES: u32 = 256;
 
@@ -36,9 +110,29 @@ impl Index8 {
 #[derive(Clone, Copy)]
 pub struct Index12;
 
-impl Index12 {
-    pub const BITS: u32 = 12;
+impl PixelFormat for Index12 {
+    ghost format = { FormatIndex12 };
 
+    const BITS: u32 = 12;
+
+    const RED: u32 = 0;
+
+    const GREEN: u32 = 0;
+
+    const BLUE: u32 = 0;
+
+    ghost BITS = { 12 };
+
+    ghost RED = { 0 };
+
+    ghost GREEN = { 0 };
+
+    ghost BLUE = { 0 };
+
+    ghost listed = { Prim.search rules };
+}
+
+impl Index12 {
     // The map entry of a sample.
     pub fn map_entry(sample: u32) -> u32
         ensures { result ≡ value_of Format.Index12 sample }
@@ -47,61 +141,22 @@ impl Index12 {
     }
 }
 
-// A format whose samples have three channels: red lowest, green above it, and blue above that.
-pub trait RgbFormat {
-    // Which format of the table it is.
-    ghost format: { Format };
-
-    // The bits of its red.
-    const RED: u32;
-
-    // The bits of its green.
-    const GREEN: u32;
-
-    // The bits of its blue.
-    const BLUE: u32;
-
-    ghost RED: { ℕ };
-
-    ghost GREEN: { ℕ };
-
-    ghost BLUE: { ℕ };
-
-    // The bits of a sample and of its channels.
-    fn widths() -> Widths
-        ensures { result ≡ widths_of format }
-    {
-        Widths {
-            bits: Self::RED + Self::GREEN + Self::BLUE,
-            red: Self::RED,
-            green: Self::GREEN,
-            blue: Self::BLUE,
-        }
-    }
-
-    // The colour of a sample.
-    fn colour(sample: u32) -> Rgb
-        ensures { result ≡ colour_in_format format sample }
-    {
-        channel::colour(sample, Self::RED, Self::GREEN, Self::BLUE)
-    }
-
-    // The table says the same bits, and each channel has 1 to 8 of them.
-    ghost listed: { IsRgb format RED GREEN BLUE };
-}
-
 // Format 2: RGB 3-3-2.
 #[derive(Clone, Copy)]
 pub struct Rgb332;
 
-impl RgbFormat for Rgb332 {
+impl PixelFormat for Rgb332 {
     ghost format = { Format332 };
+
+    const BITS: u32 = 8;
 
     const RED: u32 = 3;
 
     const GREEN: u32 = 3;
 
     const BLUE: u32 = 2;
+
+    ghost BITS = { 8 };
 
     ghost RED = { 3 };
 
@@ -112,18 +167,26 @@ impl RgbFormat for Rgb332 {
     ghost listed = { Prim.search rules };
 }
 
+impl RgbFormat for Rgb332 {
+    ghost channels = { Prim.search rules };
+}
+
 // Format 3: RGB 4-4-4.
 #[derive(Clone, Copy)]
 pub struct Rgb444;
 
-impl RgbFormat for Rgb444 {
+impl PixelFormat for Rgb444 {
     ghost format = { Format444 };
+
+    const BITS: u32 = 12;
 
     const RED: u32 = 4;
 
     const GREEN: u32 = 4;
 
     const BLUE: u32 = 4;
+
+    ghost BITS = { 12 };
 
     ghost RED = { 4 };
 
@@ -134,18 +197,26 @@ impl RgbFormat for Rgb444 {
     ghost listed = { Prim.search rules };
 }
 
+impl RgbFormat for Rgb444 {
+    ghost channels = { Prim.search rules };
+}
+
 // Format 4: RGB 5-5-5.
 #[derive(Clone, Copy)]
 pub struct Rgb555;
 
-impl RgbFormat for Rgb555 {
+impl PixelFormat for Rgb555 {
     ghost format = { Format555 };
+
+    const BITS: u32 = 15;
 
     const RED: u32 = 5;
 
     const GREEN: u32 = 5;
 
     const BLUE: u32 = 5;
+
+    ghost BITS = { 15 };
 
     ghost RED = { 5 };
 
@@ -156,18 +227,26 @@ impl RgbFormat for Rgb555 {
     ghost listed = { Prim.search rules };
 }
 
+impl RgbFormat for Rgb555 {
+    ghost channels = { Prim.search rules };
+}
+
 // Format 5: RGB 8-8-8.
 #[derive(Clone, Copy)]
 pub struct Rgb888;
 
-impl RgbFormat for Rgb888 {
+impl PixelFormat for Rgb888 {
     ghost format = { Format888 };
+
+    const BITS: u32 = 24;
 
     const RED: u32 = 8;
 
     const GREEN: u32 = 8;
 
     const BLUE: u32 = 8;
+
+    ghost BITS = { 24 };
 
     ghost RED = { 8 };
 
@@ -176,6 +255,10 @@ impl RgbFormat for Rgb888 {
     ghost BLUE = { 8 };
 
     ghost listed = { Prim.search rules };
+}
+
+impl RgbFormat for Rgb888 {
+    ghost channels = { Prim.search rules };
 }
 
 // The bits of a format; an index has channels of 0 bits.
@@ -189,18 +272,6 @@ pub struct Widths {
     pub green: u32,
     // The bits of its blue, above green.
     pub blue: u32,
-}
-
-// The bits of an index of so many.
-fn index_of(bits: u32) -> Widths
-    ensures { result ≡ record { bits = bits; red = 0; green = 0; blue = 0 } }
-{
-    Widths {
-        bits,
-        red: 0,
-        green: 0,
-        blue: 0,
-    }
 }
 
 // How much of a pixel a format uses at a depth.
@@ -276,8 +347,8 @@ impl Format {
         ensures { result ≡ widths_of self }
     {
         match self {
-            Format::Index8 => index_of(Index8::BITS),
-            Format::Index12 => index_of(Index12::BITS),
+            Format::Index8 => Index8::widths(),
+            Format::Index12 => Index12::widths(),
             Format::Rgb332 => Rgb332::widths(),
             Format::Rgb444 => Rgb444::widths(),
             Format::Rgb555 => Rgb555::widths(),
