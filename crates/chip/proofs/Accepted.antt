@@ -4,6 +4,7 @@ use mathlib.Core.Path.{◌≡◌, refl, ap, ◌∙◌}
 use mathlib.Core.Bool.{true, false, true≢false, ◌&&◌}
 use borrow.Author.Tests.{eqb-true, not-false}
 use lib.ListN.{length}
+use Rattle.std.specs.Prelude.{Option, Some, None}
 use Rattle.rules.specs.Rule.{ok}
 use Rattle.rules.specs.Faults.{Clear}
 use Rattle.rules.proofs.Faults.{none_holds, accepted_clear}
@@ -12,8 +13,6 @@ use Rattle.chip_registers.specs.Kept.{fits}
 use Rattle.chip_registers.specs.Store.{store_length}
 use Rattle.chip_registers.specs.Access.{read_only, waits}
 use Rattle.chip_registers.specs.declared.Register.{Register}
-use Rattle.chip_registers.specs.declared.Named.{Named}
-use Rattle.chip_registers.specs.declared.Named.TheVariants.{Is, Nothing}
 use Rattle.chip_queue.specs.Queue.{full}
 use Rattle.chip.specs.State.{good_state}
 use Rattle.chip.specs.Call.{Chip}
@@ -22,7 +21,7 @@ use Rattle.chip.specs.Write.{register_faults, write_faults, put, put_named, writ
 -- a write that was accepted: the register that its address names, why nothing stood against it, and what it left
 pub record AcceptedWrite (chip : Chip) (address value : ℕ) : Type 0 where
   pub register : Register
-  pub names : named address ≡ Is register
+  pub names : named address ≡ Some register
   pub good : good_state chip.0 ≡ true
   pub size : length chip.1 ≡ store_length
   pub writable : read_only register ≡ false
@@ -32,13 +31,13 @@ pub record AcceptedWrite (chip : Chip) (address value : ℕ) : Type 0 where
 
 module _ (chip : Chip) (address value : ℕ) where
   -- a write that no fault stands against, by what its address names
-  clear_accepted : Clear (write_faults chip address value) → (what : Named) → named address ≡ what → AcceptedWrite chip address value
+  clear_accepted : Clear (write_faults chip address value) → (what : Option Register) → named address ≡ what → AcceptedWrite chip address value
   unfolding written
-  clear_accepted clear Nothing e =
-      let wrong : Clear (register_faults (full chip.0.queue) Nothing (address_place address) value) = rw e at clear.1.1 in
+  clear_accepted clear None e =
+      let wrong : Clear (register_faults (full chip.0.queue) None (address_place address) value) = rw e at clear.1.1 in
       absurd (true≢false wrong.0)
-  clear_accepted clear (Is register) e =
-      let own : Clear (register_faults (full chip.0.queue) (Is register) (address_place address) value) = rw e at clear.1.1 in
+  clear_accepted clear (Some register) e =
+      let own : Clear (register_faults (full chip.0.queue) (Some register) (address_place address) value) = rw e at clear.1.1 in
       let does = none_holds chip (put_named chip (named address) value, tt) (write_faults chip address value) clear in
       record {
         register = register;
@@ -48,7 +47,7 @@ module _ (chip : Chip) (address value : ℕ) where
         writable = own.0;
         fine = not-false _ own.1.0;
         free = own.1.1.0;
-        left = ap (λ all. all.0) does ∙ ap (λ (what : Named). put_named chip what value) e;
+        left = ap (λ all. all.0) does ∙ ap (λ (what : Option Register). put_named chip what value) e;
       }
 
   -- a write that answers that it is done was accepted

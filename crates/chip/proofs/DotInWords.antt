@@ -5,6 +5,7 @@ use mathlib.Core.Bool.{Bool, true, false, ◌||◌}
 use native.Mathlib.Omega.{arith}
 use lib.ListN.{length, get_or, set}
 use borrow.Author.Tests.{lt-ltb}
+use Rattle.std.specs.Prelude.{Some}
 use Rattle.rules.specs.Rule.{ok}
 use Rattle.rules.proofs.Faults.{none_holds, accepted_clear}
 use Rattle.words.specs.Field.{field}
@@ -17,23 +18,22 @@ use Rattle.chip_queue.specs.Queue.{oldest}
 use Rattle.chip.specs.State.{windows_of}
 use Rattle.chip.specs.Call.{Chip, call_faults}
 use Rattle.chip.specs.Dot.{signals_of, drains, after_dot, dotted}
-use Rattle.chip.specs.declared.report.Report.TheVariants.{Last}
 
 -- whether a window of a state holds p: on in bits 11..0 of its control word, off in 27..16
 abbrev pub holds_in : Chip → ℕ → ℕ → Bool
 holds_in chip word p = in_window (get_or chip.0.control word 0 % 4096) (get_or chip.0.control word 0 / 65536 % 4096) p
 
-module _ (chip : Chip) {signals : Signals} (made : (dotted chip).1 ≡ ok (Last signals)) where
+module _ (chip : Chip) {signals : Signals} (made : (dotted chip).1 ≡ ok (Some signals)) where
   -- a dot that was made is what its definition does
-  does : dotted chip ≡ (after_dot chip, ok (Last (signals_of chip.0)))
+  does : dotted chip ≡ (after_dot chip, ok (Some (signals_of chip.0)))
   unfolding dotted
   does =
-      none_holds chip (after_dot chip, Last (signals_of chip.0)) (call_faults chip.0 (length chip.1))
-      (accepted_clear chip (after_dot chip, Last (signals_of chip.0)) (call_faults chip.0 (length chip.1)) (Last signals) made)
+      none_holds chip (after_dot chip, Some (signals_of chip.0)) (call_faults chip.0 (length chip.1))
+      (accepted_clear chip (after_dot chip, Some (signals_of chip.0)) (call_faults chip.0 (length chip.1)) (Some signals) made)
 
   -- it reports the signals of the position
   reports : signals ≡ signals_of chip.0
-  reports = let same : ok (Last signals) ≡ ok (Last (signals_of chip.0)) = sym made ∙ ap (λ all. all.1) does in cc
+  reports = let same : ok (Some signals) ≡ ok (Some (signals_of chip.0)) = sym made ∙ ap (λ all. all.1) does in cc
 
   -- horizontal sync by control word 2 and x, vertical sync by control word 3 and y, both of the state before the dot
   pub reported_syncs : (signals.hsync ≡ holds_in chip 2 chip.0.at.x) × (signals.vsync ≡ holds_in chip 3 chip.0.at.y)

@@ -1,9 +1,9 @@
 pub mod Places
-pub mod Words
 pub mod Good
 pub mod CallCheck
 pub mod Runs
 pub mod Passes
+pub mod Stored
 pub mod Writes
 pub mod Readings
 pub mod Shown

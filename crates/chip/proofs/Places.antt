@@ -2,10 +2,10 @@
 use Prim.Native.Nat.{ℕ}
 use mathlib.Core.Path.{◌≡◌, ap, sym, ◌∙◌}
 use mathlib.Core.Bool.{Bool, true, false, cond}
+use Rattle.std.specs.Prelude.{Option}
 use Rattle.chip_registers.specs.Store.{in_store, store_place, stored_at, stored}
 use Rattle.chip_registers.specs.Access.{waits}
 use Rattle.chip_registers.specs.declared.Register.{Register}
-use Rattle.chip_registers.specs.declared.StorePlace.{StorePlace}
 use Rattle.chip_registers.proofs.Store.{stored_place}
 use Rattle.chip_queue.specs.Queue.{pushed}
 use Rattle.chip_queue.specs.Waiting.{write_to}
@@ -34,5 +34,5 @@ module _ (chip : Chip) (register : Register) where
     put_waits waiting = put_by waiting
 
     -- a write that does not wait goes to its register's place
-    pub put_placed : waits register ≡ false → {place : StorePlace} → store_place register ≡ place → put chip register value ≡ put_at chip register value place
+    pub put_placed : waits register ≡ false → {place : Option ℕ} → store_place register ≡ place → put chip register value ≡ put_at chip register value place
     put_placed at_once is = put_by at_once ∙ ap (put_at chip register value) is

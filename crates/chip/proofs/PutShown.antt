@@ -6,6 +6,7 @@ use native.Mathlib.Omega.{arith}
 use borrow.Author.Tests.{leb-false, ne_eqb}
 use lib.ListN.{length}
 use lib.Seq.{get_or-set_same, get_or-set_other}
+use Rattle.std.specs.Prelude.{Option, Some, None}
 use Rattle.chip_registers.specs.Blocks.{start, count}
 use Rattle.chip_registers.specs.Named.{address_place, named}
 use Rattle.chip_registers.specs.Kept.{kept_of, fits}
@@ -14,9 +15,6 @@ use Rattle.chip_registers.specs.Access.{read_only, waits}
 use Rattle.chip_registers.specs.declared.Block.{Block}
 use Rattle.chip_registers.specs.declared.Block.TheVariants.{Control}
 use Rattle.chip_registers.specs.declared.Register.{Register}
-use Rattle.chip_registers.specs.declared.Named.TheVariants.{Is}
-use Rattle.chip_registers.specs.declared.StorePlace.{StorePlace}
-use Rattle.chip_registers.specs.declared.StorePlace.TheVariants.{At, Nowhere}
 use Rattle.chip_registers.proofs.Naming.{named_place}
 use Rattle.chip_registers.proofs.Kept.{fits_kept}
 use Rattle.chip_registers.proofs.Store.{place_below, nowhere_control}
@@ -35,7 +33,7 @@ writable_word : (block : Block) (word : ℕ) → block ≡ Control → read_only
 writable_word block word control writable = leb-false 9 word (rw control at writable)
 
 -- a control word of an address stands at four times its number
-control_place : (address : ℕ) (register : Register) → named address ≡ Is register → register.block ≡ Control → address_place address ≡ 4 * register.word
+control_place : (address : ℕ) (register : Register) → named address ≡ Some register → register.block ≡ Control → address_place address ≡ 4 * register.word
 control_place address register names control =
     let there : address_place address ≡ start Control + 4 * register.word = rw control at (named_place address register names) in
     omega arith
@@ -59,45 +57,45 @@ module _ (chip : Chip) (register : Register) (value : ℕ) where
     put_shown nine size here writable fine = by (store_place register) refl
       where
         -- by where the register stands
-        by : (place : StorePlace) → store_place register ≡ place → register_shows (put chip register value) register ≡ value
-        by (At index) at =
+        by : (place : Option ℕ) → store_place register ≡ place → register_shows (put chip register value) register ≡ value
+        by (Some index) at =
             ap (λ (after : Chip). register_shows after register) (put_placed chip register value at_once at)
-            ∙ ap (shows_at (put_at chip register value (At index)) register) at
+            ∙ ap (shows_at (put_at chip register value (Some index)) register) at
             ∙ ap (kept_of register) (get_or-set_same chip.1 index value 0 (rw size (place_below register index at here)))
             ∙ fits_kept register value fine
-        by Nowhere none =
+        by None none =
             ap (λ (after : Chip). register_shows after register) (put_placed chip register value at_once none)
-            ∙ ap (shows_at (put_at chip register value Nowhere) register) none
+            ∙ ap (shows_at (put_at chip register value None) register) none
             ∙ word_shown chip.0 register.word value nine
             (writable_word register.block register.word (nowhere_control register.block register.word none) writable)
 
     -- what other addresses name shows what it did
-    pub put_elsewhere : (address other : ℕ) (register' : Register) → named address ≡ Is register → named other ≡ Is register'
+    pub put_elsewhere : (address other : ℕ) (register' : Register) → named address ≡ Some register → named other ≡ Some register'
         → (address_place other ≡ address_place address → ⊥) → register_shows (put chip register value) register' ≡ register_shows chip register'
     put_elsewhere address other register' names names' differs = by (store_place register) (store_place register') refl refl
       where
         -- by where the two registers stand
-        by : (place place' : StorePlace) → store_place register ≡ place → store_place register' ≡ place'
+        by : (place place' : Option ℕ) → store_place register ≡ place → store_place register' ≡ place'
             → register_shows (put chip register value) register' ≡ register_shows chip register'
-        by (At index) (At index') at at' =
+        by (Some index) (Some index') at at' =
             ap (λ (after : Chip). register_shows after register') (put_placed chip register value at_once at)
-            ∙ ap (shows_at (put_at chip register value (At index)) register') at'
+            ∙ ap (shows_at (put_at chip register value (Some index)) register') at'
             ∙ ap (kept_of register')
-            (get_or-set_other chip.1 index index' value 0 (λ same. differs (apart other address register' register names' names index (at' ∙ ap At same) at).0))
+            (get_or-set_other chip.1 index index' value 0 (λ same. differs (apart other address register' register names' names index (at' ∙ ap Some same) at).0))
             ∙ sym (ap (shows_at chip register') at')
-        by (At index) Nowhere at none' =
+        by (Some index) None at none' =
             ap (λ (after : Chip). register_shows after register') (put_placed chip register value at_once at)
-            ∙ ap (shows_at (put_at chip register value (At index)) register') none'
+            ∙ ap (shows_at (put_at chip register value (Some index)) register') none'
             ∙ sym (ap (shows_at chip register') none')
-        by Nowhere (At index') none at' =
+        by None (Some index') none at' =
             ap (λ (after : Chip). register_shows after register') (put_placed chip register value at_once none)
-            ∙ ap (shows_at (put_at chip register value Nowhere) register') at'
+            ∙ ap (shows_at (put_at chip register value None) register') at'
             ∙ sym (ap (shows_at chip register') at')
-        by Nowhere Nowhere none none' =
+        by None None none none' =
             let here = control_place address register names (nowhere_control register.block register.word none) in
             let there = control_place other register' names' (nowhere_control register'.block register'.word none') in
             ap (λ (after : Chip). register_shows after register') (put_placed chip register value at_once none)
-            ∙ ap (shows_at (put_at chip register value Nowhere) register') none'
+            ∙ ap (shows_at (put_at chip register value None) register') none'
             ∙ word_elsewhere chip.0 register.word value register'.word (λ same. differs (omega arith))
             ∙ sym (ap (shows_at chip register') none')
 
@@ -112,17 +110,17 @@ module _ (chip : Chip) (register : Register) (value : ℕ) where
     room_apart word other = rw (ne_eqb word 9 other)
 
     -- a write that joins the queue leaves what every register shows but the room
-    pub wait_elsewhere : (other : ℕ) (register' : Register) → named other ≡ Is register' → (address_place other ≡ 0x24 → ⊥)
+    pub wait_elsewhere : (other : ℕ) (register' : Register) → named other ≡ Some register' → (address_place other ≡ 0x24 → ⊥)
         → register_shows (put chip register value) register' ≡ register_shows chip register'
     wait_elsewhere other register' names' differs = by (store_place register') refl
       where
         -- by where the register stands
-        by : (place : StorePlace) → store_place register' ≡ place → register_shows (put chip register value) register' ≡ register_shows chip register'
-        by (At index) at =
+        by : (place : Option ℕ) → store_place register' ≡ place → register_shows (put chip register value) register' ≡ register_shows chip register'
+        by (Some index) at =
             ap (λ (after : Chip). register_shows after register') (put_waits chip register value waiting)
             ∙ ap (shows_at joined_queue register') at
             ∙ sym (ap (shows_at chip register') at)
-        by Nowhere none =
+        by None none =
             let there = control_place other register' names' (nowhere_control register'.block register'.word none) in
             ap (λ (after : Chip). register_shows after register') (put_waits chip register value waiting)
             ∙ ap (shows_at joined_queue register') none

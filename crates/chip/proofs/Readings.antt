@@ -4,6 +4,7 @@ use mathlib.Core.Path.{◌≡◌, refl, ap, sym, ◌∙◌}
 use mathlib.Core.Bool.{Bool, true, false, cond}
 use mathlib.Core.List.{List, [], ◌∷◌}
 use lib.ListN.{length}
+use Rattle.std.specs.Prelude.{Option, Some, None}
 use Rattle.rules.specs.Rule.{Outcome, ok, refused, and_then}
 use Rattle.rules.specs.Faults.{Numbered, Fault, unless}
 use Rattle.rules.specs.Checked.{verdict}
@@ -11,8 +12,6 @@ use Rattle.refusals.specs.Refusal.{numbered}
 use Rattle.refusals.specs.declared.Refusal.TheVariants.{NoRegister}
 use Rattle.chip_registers.specs.Named.{address_place, named}
 use Rattle.chip_registers.specs.declared.Register.{Register}
-use Rattle.chip_registers.specs.declared.Named.{Named}
-use Rattle.chip_registers.specs.declared.Named.TheVariants.{Is, Nothing}
 use Rattle.chip.specs.Call.{Chip, call_faults}
 use Rattle.chip.specs.Read.{register_shows, address_shows, name_faults, read_faults, read_back}
 use Rattle.chip.proofs.CallCheck.{tested, GoesOn, first_then, passes, stops}
@@ -35,7 +34,7 @@ read_same chip address = unless_same chip (address_shows chip (named address)) (
 
 module _ (chip : Chip) (address : ℕ) where
   -- a read by its first test, and then by what its address names
-  read_test : {first : Outcome Numbered (Unit {0})} {what : Named} → tested chip ≡ first → named address ≡ what
+  read_test : {first : Outcome Numbered (Unit {0})} {what : Option Register} → tested chip ≡ first → named address ≡ what
       → verdict (read_faults chip address) ≡ and_then first (λ passed. verdict (name_faults what (address_place address)))
   read_test e names = rw (sym e, sym names) (first_then (call_faults chip.0 (length chip.1)) (name_faults (named address) (address_place address)))
 
@@ -46,11 +45,11 @@ module _ (chip : Chip) (address : ℕ) where
 
   module _ (fine : GoesOn chip) where
     -- a read of an address that names nothing is refused by 1, at the address
-    pub read_nowhere : named address ≡ Nothing → read_back chip address ≡ (chip, refused (numbered (NoRegister (address_place address))))
+    pub read_nowhere : named address ≡ None → read_back chip address ≡ (chip, refused (numbered (NoRegister (address_place address))))
     unfolding read_back
     read_nowhere e = stops chip _ (read_faults chip address) _ (read_test fine e)
 
     -- any other read answers what the register shows
-    pub read_shown : (register : Register) → named address ≡ Is register → read_back chip address ≡ (chip, ok (register_shows chip register))
+    pub read_shown : (register : Register) → named address ≡ Some register → read_back chip address ≡ (chip, ok (register_shows chip register))
     unfolding read_back
-    read_shown register e = passes chip _ (read_faults chip address) (read_test fine e) ∙ ap (λ (what : Named). (chip, ok (address_shows chip what))) e
+    read_shown register e = passes chip _ (read_faults chip address) (read_test fine e) ∙ ap (λ (what : Option Register). (chip, ok (address_shows chip what))) e

@@ -7,6 +7,7 @@ use native.Mathlib.Omega.{arith}
 use borrow.Author.Tests.{le-ltb}
 use lib.Dec.{ltb}
 use lib.ListN.{length}
+use Rattle.std.specs.Prelude.{Some, None}
 use Rattle.rules.specs.Rule.{ok, refused}
 use Rattle.rules.specs.Faults.{Numbered}
 use Rattle.chip_timing.specs.Move.{position_after}
@@ -18,7 +19,6 @@ use Rattle.chip.specs.Call.{Chip, call_faults}
 use Rattle.chip.specs.Dot.{signals_of, drains, oldest_applied, moved, after_dot, dotted}
 use Rattle.chip.specs.Dots.{after_dots, last_report, ran}
 use Rattle.chip.specs.declared.state.State.{State}
-use Rattle.chip.specs.declared.report.Report.TheVariants.{Nothing, Last}
 use Rattle.chip.proofs.Good.{dots_add}
 use Rattle.chip.proofs.CallCheck.{tested, GoesOn, passes, stops}
 
@@ -81,7 +81,7 @@ module _ (chip : Chip) where
   dot_unfit refusal e = stops chip _ (call_faults chip.0 (length chip.1)) refusal e
 
   -- any other dot leaves what a dot leaves, and reports the signals where the beam was
-  pub dot_done : GoesOn chip → dotted chip ≡ (after_dot chip, ok (Last (signals_of chip.0)))
+  pub dot_done : GoesOn chip → dotted chip ≡ (after_dot chip, ok (Some (signals_of chip.0)))
   unfolding dotted
   dot_done fine = passes chip _ (call_faults chip.0 (length chip.1)) fine
 
@@ -105,15 +105,15 @@ module _ (chip : Chip) where
 
   module _ (count : ℕ) (fine : GoesOn chip) where
     -- no dot reports nothing
-    pub dots_none : count ≡ 0 → ran chip count ≡ (chip, ok Nothing)
+    pub dots_none : count ≡ 0 → ran chip count ≡ (chip, ok None)
     unfolding after_dots last_report
     dots_none none = ap (ran chip) none ∙ dots_done 0 fine
 
     -- the last dot reports what it finds behind the others
-    pub dots_some : (count ≡ 0 → ⊥) → ran chip count ≡ (after_dot (after_dots (count - 1) chip), ok (Last (signals_of (after_dots (count - 1) chip).0)))
+    pub dots_some : (count ≡ 0 → ⊥) → ran chip count ≡ (after_dot (after_dots (count - 1) chip), ok (Some (signals_of (after_dots (count - 1) chip).0)))
     unfolding last_report
     dots_some some =
         let e : count ≡ suc (count - 1) = omega arith in
         ap (ran chip) e
         ∙ dots_done (suc (count - 1)) fine
-        ∙ ap (λ (after : Chip). (after, ok (Last (signals_of (after_dots (count - 1) chip).0)))) (dots_last (count - 1))
+        ∙ ap (λ (after : Chip). (after, ok (Some (signals_of (after_dots (count - 1) chip).0)))) (dots_last (count - 1))

@@ -4,6 +4,7 @@ use mathlib.Core.Path.{◌≡◌, refl, ap, ◌∙◌}
 use mathlib.Core.Bool.{true, false, not, ◌&&◌}
 use borrow.Author.Tests.{eq-eqb, lt-ltb, lt-leb}
 use lib.ListN.{length}
+use Rattle.std.specs.Prelude.{Some}
 use Rattle.rules.specs.Rule.{ok}
 use Rattle.rules.specs.Faults.{Clear}
 use Rattle.rules.proofs.Checked.{verdict_clear}
@@ -12,7 +13,6 @@ use Rattle.chip_registers.specs.Access.{read_only, waits}
 use Rattle.chip_registers.specs.Kept.{fits}
 use Rattle.chip_registers.specs.declared.Block.TheVariants.{ColourMap}
 use Rattle.chip_registers.specs.declared.Register.{Register}
-use Rattle.chip_registers.specs.declared.Named.TheVariants.{Is}
 use Rattle.chip_registers.proofs.Kept.{colour_fits}
 use Rattle.chip_registers.proofs.Map.{register_in, InTable, listed_named}
 use Rattle.chip_queue.specs.Queue.{full}
@@ -24,7 +24,7 @@ use Rattle.chip.proofs.Writes.{write_goes}
 
 module _ (chip : Chip) (address value : ℕ) (whole : HasArrays chip.0) (keeps : KeepsRule chip.0) (size : length chip.1 ≡ 4963) where
   -- a write to a register that takes it is done
-  pub write_taken : (register : Register) → named address ≡ Is register → read_only register ≡ false → fits register value ≡ true
+  pub write_taken : (register : Register) → named address ≡ Some register → read_only register ≡ false → fits register value ≡ true
       → waits register && full chip.0.queue ≡ false → (written chip address value).1 ≡ ok tt
   write_taken register names writable fine free =
       let own : Clear (address_faults (full chip.0.queue) address value) = rw names (writable, (ap not fine, (free, tt))) in

@@ -1,29 +1,22 @@
 -- No second answer meets a contract of this crate, and none leaves another store. Assumes nothing.
 use Prim.Native.Nat.{ℕ}
-use mathlib.Core.Path.{◌≡◌, refl, ap, sym, ◌∙◌}
+use mathlib.Core.Path.{◌≡◌, ap, sym, ◌∙◌}
 use mathlib.Core.List.{List}
-use Rattle.rules.specs.Rule.{Outcome, ok, refused}
+use Rattle.std.specs.Prelude.{Option, Result}
+use Rattle.rules.specs.Rule.{Outcome}
 use Rattle.rules.specs.Faults.{Numbered}
 use Rattle.rules.specs.Unique.{OneAnswer, OneOutcome}
 use Rattle.rules.proofs.Unique.{by_equation, by_saying, by_outcome}
-use Rattle.refusals.specs.declared.Answer.{Answer}
-use Rattle.refusals.specs.Refusal.{answer_outcome}
-use Rattle.refusals.proofs.Known.{refusal_of, known, answer_of, answer_back}
-use Rattle.chip.specs.Read as read_spec
-use Rattle.chip.specs.Report.{dots_outcome}
-use Rattle.chip.specs.declared.state.State.{State}
-use Rattle.chip.specs.declared.write.Written.{Written}
-use Rattle.chip.specs.declared.read.ReadAnswer.{ReadAnswer}
-use Rattle.chip.specs.declared.read.ReadAnswer.TheVariants.{Word, Refused as ReadRefused}
-use Rattle.chip.specs.declared.read.ReadBack.{ReadBack}
-use Rattle.chip.specs.declared.report.Report.{Report}
-use Rattle.chip.specs.declared.report.DotsAnswer.{DotsAnswer}
-use Rattle.chip.specs.declared.report.DotsAnswer.TheVariants.{Reported, Refused as DotsRefused}
-use Rattle.chip.specs.declared.report.Dotted.{Dotted}
-use Rattle.chip.specs.declared.report.DotsChange.{DotsChange}
+use Rattle.refusals.specs.Refusal.{outcome_of}
+use Rattle.refusals.specs.declared.Refusal.{Refusal}
+use Rattle.refusals.proofs.Known.{answer_known}
+use Rattle.chip_timing.specs.declared.Signals.{Signals}
 use Rattle.chip.specs.Call.{Chip}
 use Rattle.chip.specs.Change.{changed_by, Tells}
+use Rattle.chip.specs.declared.state.State.{State}
 use Rattle.chip.specs.declared.change.Change.{Change}
+use Rattle.chip.specs.declared.answered.Answered.{Answered}
+use Rattle.chip.specs.declared.answered.ChangeAnswered.{ChangeAnswered}
 use Rattle.chip.proofs.Changes.{change_known}
 use Rattle.chip.proofs.state.State.new.Reads as new
 use Rattle.chip.proofs.state.State.unchanged.Reads as unchanged
@@ -65,28 +58,26 @@ changed_unique = by_equation _ _
 
 -- ---- an answer is known by what it says
 
--- where an answer is known by what it says, the state and that make the whole result
-same_result : {Said Answer Result : Type 0} (told : Answer → Outcome Numbered Said) (answer_of : Outcome Numbered Said → Answer)
-    (back : (answer : Answer) → answer_of (told answer) ≡ answer) (result : State → Answer → Result) (state state' : State) (answer answer' : Answer)
-    → state ≡ state' → told answer ≡ told answer' → result state answer ≡ result state' answer'
-same_result {Said} {Answer} {Result} told answer_of back result state state' answer answer' states says =
-    ap (λ (state : State). result state answer) states ∙ ap (result state') (sym (back answer) ∙ ap answer_of says ∙ back answer')
+-- the state and what the answer says make the whole of what a call hands back
+same_answered : {A : Type 0} (one other : Answered A) → one.state ≡ other.state → outcome_of one.answer ≡ outcome_of other.answer → one ≡ other
+same_answered {A} one other states says =
+    ap (λ (state : State). record { state = state; answer = one.answer }) states
+    ∙ ap (λ (answer : Result A Refusal). record { state = other.state; answer = answer }) (answer_known one.answer other.answer says)
 
 -- a change that says no more than it does makes, with an answer and a store, what a call comes to
-abbrev Makes : {Said Answer : Type 0} → (Answer → Outcome Numbered Said) → State → Change → Answer → List ℕ → Chip × Outcome Numbered Said → Type 0
-Makes told before change answer store all = (((changed_by before change, store), told answer) ≡ all) × Tells before.queue change.queue
+abbrev Makes : {A : Type 0} → State → ChangeAnswered A → List ℕ → Chip × Outcome Numbered A → Type 0
+Makes before made store all = (((changed_by before made.change, store), outcome_of made.answer) ≡ all) × Tells before.queue made.change.queue
 
--- where an answer is known by what it says, the change and that make the whole result
-same_change : {Said Answer Result : Type 0} (told : Answer → Outcome Numbered Said) (answer_of : Outcome Numbered Said → Answer)
-    (back : (answer : Answer) → answer_of (told answer) ≡ answer) (result : Change → Answer → Result) (before : State) (change change' : Change) (answer answer' : Answer)
-    {store store' : List ℕ} {all : Chip × Outcome Numbered Said}
-    → Makes told before change answer store all → Makes told before change' answer' store' all → (result change answer ≡ result change' answer') × (store ≡ store')
-same_change {Said} {Answer} {Result} told answer_of back result before change change' answer answer' {store} {store'} {all} makes makes' =
+-- the change and what the answer says make the whole of what a call changes
+same_change : {A : Type 0} (before : State) (one other : ChangeAnswered A) {store store' : List ℕ} {all : Chip × Outcome Numbered A}
+    → Makes before one store all → Makes before other store' all → (one ≡ other) × (store ≡ store')
+same_change {A} before one other {store} {store'} {all} makes makes' =
     let is = makes.0 ∙ sym makes'.0 in (
-      ap (λ (change : Change). result change answer)
-          (change_known before change change' makes.1 makes'.1 (ap (λ (after : Chip × Outcome Numbered Said). after.0.0) is))
-          ∙ ap (result change') (sym (back answer) ∙ ap answer_of (ap (λ (after : Chip × Outcome Numbered Said). after.1) is) ∙ back answer'),
-      ap (λ (after : Chip × Outcome Numbered Said). after.0.1) is,
+      ap (λ (change : Change). record { change = change; answer = one.answer })
+          (change_known before one.change other.change makes.1 makes'.1 (ap (λ (after : Chip × Outcome Numbered A). after.0.0) is))
+          ∙ ap (λ (answer : Result A Refusal). record { change = other.change; answer = answer })
+          (answer_known one.answer other.answer (ap (λ (after : Chip × Outcome Numbered A). after.1) is)),
+      ap (λ (after : Chip × Outcome Numbered A). after.0.1) is,
     )
 
 -- ---- write
@@ -94,76 +85,34 @@ same_change {Said} {Answer} {Result} told answer_of back result before change ch
 -- a write has one answer and leaves one store
 pub write_unique : OneOutcome (λ k exit. exit.1.0.now) write.Post
 write_unique =
-    by_outcome (λ k (r : Written). r.state) (λ k (r : Written). answer_outcome r.answer)
-    (λ k (r : Written) (r' : Written).
-    same_result answer_outcome answer_of answer_back (λ (state : State) (answer : Answer). record { state = state; answer = answer })
-    r.state r'.state r.answer r'.answer)
-    _ (λ k exit. exit.1.0.now) _
+    by_outcome (λ k (r : Answered (Unit {0})). r.state) (λ k (r : Answered (Unit {0})). outcome_of r.answer) (λ k. same_answered) _ (λ k exit. exit.1.0.now) _
 
 -- what a write changes is one change, with one answer and one store
 pub write_change_unique : OneOutcome (λ k exit. exit.1.0.now) write_change.Post
-write_change_unique k args one other exit exit' =
-    same_change answer_outcome answer_of answer_back (λ (change : Change) (answer : Answer). record { change = change; answer = answer })
-    args.0 one.change other.change one.answer other.answer
+write_change_unique k args one other exit exit' = same_change args.0 one other
 
 -- ---- read
 
--- the answer of a read that says an outcome
-abbrev read_answer : Outcome Numbered ℕ → ReadAnswer
-read_answer (ok word) = Word word
-read_answer (refused refusal) = ReadRefused (refusal_of refusal)
-
--- a read's answer is known by what it says
-read_back : (answer : ReadAnswer) → read_answer (read_spec.read_outcome answer) ≡ answer
-read_back (Word word) = refl
-read_back (ReadRefused refusal) = ap ReadRefused (known refusal)
-
 -- a read has one answer
 pub read_unique : OneAnswer read.Post
-read_unique =
-    by_saying (λ k (r : ReadBack). r.state) (λ k (r : ReadBack). read_spec.read_outcome r.answer)
-    (λ k (r : ReadBack) (r' : ReadBack).
-    same_result read_spec.read_outcome read_answer read_back (λ (state : State) (answer : ReadAnswer). record { state = state; answer = answer })
-    r.state r'.state r.answer r'.answer)
-    _ _ _
+read_unique = by_saying (λ k (r : Answered ℕ). r.state) (λ k (r : Answered ℕ). outcome_of r.answer) (λ k. same_answered) _ _ _
 
 -- ---- dots
 
--- the answer of dots that says an outcome
-abbrev dots_answer : Outcome Numbered Report → DotsAnswer
-dots_answer (ok report) = Reported report
-dots_answer (refused refusal) = DotsRefused (refusal_of refusal)
-
--- dots' answer is known by what it says
-dots_back : (answer : DotsAnswer) → dots_answer (dots_outcome answer) ≡ answer
-dots_back (Reported report) = refl
-dots_back (DotsRefused refusal) = ap DotsRefused (known refusal)
-
--- the state and what the answer says make the whole result of dots
-same_dots : (r r' : Dotted) → r.state ≡ r'.state → dots_outcome r.answer ≡ dots_outcome r'.answer → r ≡ r'
-same_dots r r' =
-    same_result dots_outcome dots_answer dots_back (λ (state : State) (answer : DotsAnswer). record { state = state; answer = answer })
-    r.state r'.state r.answer r'.answer
-
 -- a dot has one answer and leaves one store
 pub dot_unique : OneOutcome (λ k exit. exit.1.0.now) dot.Post
-dot_unique = by_outcome (λ k (r : Dotted). r.state) (λ k (r : Dotted). dots_outcome r.answer) (λ k. same_dots) _ (λ k exit. exit.1.0.now) _
+dot_unique =
+    by_outcome (λ k (r : Answered (Option Signals)). r.state) (λ k (r : Answered (Option Signals)). outcome_of r.answer) (λ k. same_answered) _ (λ k exit. exit.1.0.now) _
 
 -- so many dots have one answer and leave one store
 pub dots_unique : OneOutcome (λ k exit. exit.1.0.now) dots.Post
-dots_unique = by_outcome (λ k (r : Dotted). r.state) (λ k (r : Dotted). dots_outcome r.answer) (λ k. same_dots) _ (λ k exit. exit.1.0.now) _
-
--- the change and what the answer says make the whole of what dots change
-same_dots_change : (before : State) (r r' : DotsChange) {store store' : List ℕ} {all : Chip × Outcome Numbered Report}
-    → Makes dots_outcome before r.change r.answer store all → Makes dots_outcome before r'.change r'.answer store' all → (r ≡ r') × (store ≡ store')
-same_dots_change before r r' =
-    same_change dots_outcome dots_answer dots_back (λ (change : Change) (answer : DotsAnswer). record { change = change; answer = answer })
-    before r.change r'.change r.answer r'.answer
+dots_unique =
+    by_outcome (λ k (r : Answered (Option Signals)). r.state) (λ k (r : Answered (Option Signals)). outcome_of r.answer) (λ k. same_answered) _ (λ k exit. exit.1.0.now) _
 
 -- what a dot changes is one change, with one answer and one store
 pub dot_change_unique : OneOutcome (λ k exit. exit.1.0.now) dot_change.Post
-dot_change_unique k args one other exit exit' = same_dots_change args.0 one other
+dot_change_unique k args one other exit exit' = same_change args.0 one other
 
 -- what so many dots change is one change, with one answer and one store
 pub dots_change_unique : OneOutcome (λ k exit. exit.1.0.now) dots_change.Post
-dots_change_unique k args one other exit exit' = same_dots_change args.0 one other
+dots_change_unique k args one other exit exit' = same_change args.0 one other

@@ -4,6 +4,7 @@ use mathlib.Core.Path.{◌≡◌, refl, ap, sym, ◌∙◌}
 use mathlib.Core.Bool.{Bool, true, false, ◌&&◌}
 use native.Mathlib.Omega.{arith}
 use lib.ListN.{length}
+use Rattle.std.specs.Prelude.{Option, Some, None}
 use Rattle.rules.specs.Rule.{ok}
 use Rattle.chip_registers.specs.Blocks.{count}
 use Rattle.chip_registers.specs.Named.{named}
@@ -11,8 +12,6 @@ use Rattle.chip_registers.specs.Access.{waits_in, waits}
 use Rattle.chip_registers.specs.declared.Block.{Block}
 use Rattle.chip_registers.specs.declared.Block.TheVariants.{Control, WindowEntries, ColourMap, GammaMap, CursorGlyph, CursorColours}
 use Rattle.chip_registers.specs.declared.Register.{Register}
-use Rattle.chip_registers.specs.declared.Named.{Named}
-use Rattle.chip_registers.specs.declared.Named.TheVariants.{Is, Nothing}
 use Rattle.chip_registers.proofs.Naming.{named_word}
 use Rattle.chip_registers.proofs.Map.{register_in, named_listed, listed_named}
 use Rattle.chip_queue.specs.Queue.{full}
@@ -35,7 +34,7 @@ abbrev pub InColourMap : ℕ → Type 0
 InColourMap address = (0x020000 ≤ address % 2 ^ 24) × (address % 2 ^ 24 < 0x024800)
 
 -- a write to an address of the colour map waits, block by block
-in_map_waits : (block : Block) (word address : ℕ) → named address ≡ Is (register_in block word) → InColourMap address → waits_in block ≡ true
+in_map_waits : (block : Block) (word address : ℕ) → named address ≡ Some (register_in block word) → InColourMap address → waits_in block ≡ true
 in_map_waits Control word address names in_map = let here = named_listed Control word address names in absurd (omega arith)
 in_map_waits WindowEntries word address names in_map = let here = named_listed WindowEntries word address names in absurd (omega arith)
 in_map_waits ColourMap word address names in_map = refl
@@ -44,7 +43,7 @@ in_map_waits CursorGlyph word address names in_map = let here = named_listed Cur
 in_map_waits CursorColours word address names in_map = let here = named_listed CursorColours word address names in absurd (omega arith)
 
 -- a write to any other address acts at once, block by block
-elsewhere_at_once : (block : Block) (word address : ℕ) → named address ≡ Is (register_in block word) → (InColourMap address → ⊥) → waits_in block ≡ false
+elsewhere_at_once : (block : Block) (word address : ℕ) → named address ≡ Some (register_in block word) → (InColourMap address → ⊥) → waits_in block ≡ false
 elsewhere_at_once Control word address names elsewhere = refl
 elsewhere_at_once WindowEntries word address names elsewhere = refl
 elsewhere_at_once ColourMap word address names elsewhere = let here = named_listed ColourMap word address names in absurd (elsewhere (omega arith))
@@ -54,17 +53,17 @@ elsewhere_at_once CursorColours word address names elsewhere = refl
 
 -- chips with which calls may go on answer a read alike where what it names shows the same
 same_read : (chip after : Chip) (other : ℕ) → GoesOn chip → GoesOn after
-    → ((register : Register) → named other ≡ Is register → register_shows after register ≡ register_shows chip register)
+    → ((register : Register) → named other ≡ Some register → register_shows after register ≡ register_shows chip register)
     → (read_back after other).1 ≡ (read_back chip other).1
 same_read chip after other on on' shows = by (named other) refl
   where
     -- by what the address names
-    by : (what : Named) → named other ≡ what → (read_back after other).1 ≡ (read_back chip other).1
-    by (Is register) e =
+    by : (what : Option Register) → named other ≡ what → (read_back after other).1 ≡ (read_back chip other).1
+    by (Some register) e =
         ap (λ all. all.1) (read_shown after other on' register e)
         ∙ ap ok (shows register e)
         ∙ sym (ap (λ all. all.1) (read_shown chip other on register e))
-    by Nothing e = ap (λ all. all.1) (read_nowhere after other on' e) ∙ sym (ap (λ all. all.1) (read_nowhere chip other on e))
+    by None e = ap (λ all. all.1) (read_nowhere after other on' e) ∙ sym (ap (λ all. all.1) (read_nowhere chip other on e))
 
 -- a read of control word 9 shows 64 less waiting
 room_shown : (chip : Chip) (other : ℕ) → GoesOn chip → other % 2 ^ 24 ≡ 0x24 → (read_back chip other).1 ≡ ok (64 - chip.0.queue.waiting)

@@ -1,5 +1,5 @@
 -- A dot, in three steps: the signals where the beam is, a waiting colour into the store where they say blank, the beam one position on.
-use Rattle.std.specs.Prelude.{Bool, cond, ◌&&◌, ltb, length, set}
+use Rattle.std.specs.Prelude.{Bool, cond, ◌&&◌, ltb, length, set, Option, Some}
 use Rattle.rules.specs.Rule.{Outcome}
 use Rattle.rules.specs.Faults.{Numbered, unless}
 use Rattle.chip_timing.specs.Signals.{signals_at}
@@ -10,8 +10,6 @@ use Rattle.chip_queue.specs.Queue.{oldest, popped}
 use Rattle.chip.specs.State.{control_word, windows_of, with_position, with_queue}
 use Rattle.chip.specs.Call.{Chip, call_faults}
 use Rattle.chip.specs.declared.state.State.{State}
-use Rattle.chip.specs.declared.report.Report.{Report}
-use Rattle.chip.specs.declared.report.Report.TheVariants.{Last}
 
 -- the signals at the position (CHIP 3.3)
 abbrev pub signals_of : State → Signals
@@ -40,5 +38,5 @@ unfoldable pub after_dot : Chip → Chip
 after_dot chip = (moved (drained chip).0, (drained chip).1)
 
 -- what a dot leaves and answers; it is refused by 11, then 5 (CHIP 3.3)
-unfoldable pub dotted : Chip → Chip × Outcome Numbered Report
-dotted chip = unless (call_faults chip.0 (length chip.1)) chip (after_dot chip, Last (signals_of chip.0))
+unfoldable pub dotted : Chip → Chip × Outcome Numbered (Option Signals)
+dotted chip = unless (call_faults chip.0 (length chip.1)) chip (after_dot chip, Some (signals_of chip.0))

@@ -1,34 +1,25 @@
 -- What functions inside the crate answer to each other. No contract of a public function cites these.
-use Rattle.std.specs.Prelude.{ℕ, zero, suc, ◌≤◌, ◌<◌, ◌≡◌, Bool, true, List, set}
-use Rattle.rules.specs.Rule.{Outcome, ok, refused, and_then}
+use Rattle.std.specs.Prelude.{ℕ, zero, suc, ◌≤◌, ◌<◌, ◌≡◌, true, List, set, Option, Some, Result, Ok, Err}
+use Rattle.rules.specs.Rule.{Outcome, ok, refused}
 use Rattle.rules.specs.Faults.{Numbered}
-use Rattle.rules.specs.Checked.{verdict}
-use Rattle.refusals.specs.Refusal.{numbered, answer_outcome}
-use Rattle.refusals.specs.declared.Answer.{Answer}
+use Rattle.refusals.specs.Refusal.{numbered}
 use Rattle.chip_timing.specs.Signals.{signals_at}
 use Rattle.chip_timing.specs.declared.Walk.{Walk}
-use Rattle.chip_registers.specs.declared.Named.{Named}
-use Rattle.chip_registers.specs.declared.Named.TheVariants.{Is}
 use Rattle.chip_queue.specs.Waiting.{target}
 use Rattle.chip_queue.specs.Queue.{oldest, without}
 use Rattle.chip_queue.specs.declared.Queue.{Queue}
 use Rattle.chip.specs.State.{windows_of}
 use Rattle.chip.specs.Call.{Chip}
-use Rattle.chip.specs.Write.{address_faults}
 use Rattle.chip.specs.Dots.{after_dots}
 use Rattle.chip.specs.declared.state.State.{State}
 use Rattle.chip.specs.declared.pass.Pass.{Pass}
-use Rattle.chip.specs.declared.write.Verdict.{Verdict}
-use Rattle.chip.specs.declared.write.Verdict.TheVariants.{To, Refused}
+use Rattle.chip_registers.specs.declared.Register.{Register}
+use Rattle.refusals.specs.declared.Refusal.{Refusal}
 
--- what a call's first test and then the other faults of a write come to, by whether the queue is full
-abbrev pub write_test : Answer → Bool → ℕ → ℕ → Outcome Numbered (Unit {0})
-write_test allowed no_room address value = and_then (answer_outcome allowed) (λ passed. verdict (address_faults no_room address value))
-
--- what becomes of a write by that: it goes to the register that its address names, or is refused so
-abbrev pub Judged : Outcome Numbered (Unit {0}) → Named → Verdict → Type 0
-Judged test what (To register) = (test ≡ ok tt) × (what ≡ Is register)
-Judged test what (Refused refusal) = test ≡ refused (numbered refusal)
+-- what becomes of a write by the verdict on its faults: it goes to the register that its address names, or is refused so
+abbrev pub Judged : Outcome Numbered (Unit {0}) → Option Register → Result Register Refusal → Type 0
+Judged test what (Ok register) = (test ≡ ok tt) × (what ≡ Some register)
+Judged test what (Err refusal) = test ≡ refused (numbered refusal)
 
 -- so many of the oldest writes of a queue in a store, one after the other
 unfoldable pub stored_by : ℕ → Queue → List ℕ → List ℕ

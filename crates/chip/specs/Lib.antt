@@ -3,7 +3,6 @@ pub mod Call
 pub mod Change
 pub mod Write
 pub mod Read
-pub mod Report
 pub mod Dot
 pub mod Dots
 pub mod Inner

@@ -36,10 +36,9 @@ impl State {
         ensures { result ≡ unchanged self }
     {
         let control = self.control;
-        let at = self.at;
         Change {
             control,
-            at,
+            at: self.at,
             queue: QueueChange::Same,
         }
     }
@@ -48,8 +47,7 @@ impl State {
     fn with_waiting(mut self, write: Waiting) -> Self
         ensures { result ≡ with_queue self (pushed self.queue write) }
     {
-        let queue = self.queue;
-        self.queue = queue.pushed(write);
+        self.queue = self.queue.pushed(write);
         self
     }
 
@@ -57,8 +55,7 @@ impl State {
     fn drained(mut self, taken: u32) -> Self
         ensures { result ≡ with_queue self (without self.queue taken) }
     {
-        let queue = self.queue;
-        self.queue = queue.without(taken);
+        self.queue = self.queue.without(taken);
         self
     }
 
@@ -78,9 +75,8 @@ impl State {
         ensures { result ≡ beside_queue self change }
     {
         let control = change.control;
-        let at = change.at;
         self.control = control;
-        self.at = at;
+        self.at = change.at;
         self
     }
 
@@ -89,11 +85,10 @@ impl State {
         ensures { result ≡ changed_by self change }
     {
         let beside = self.beside_queue(change);
-        let queue = change.queue;
         // Apart from the rest, so that a queue that stays is not copied.
-        if let QueueChange::Same = queue {
+        if matches!(change.queue, QueueChange::Same) {
             return beside;
         }
-        beside.queue_changed(queue)
+        beside.queue_changed(change.queue)
     }
 }

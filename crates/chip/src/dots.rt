@@ -1,18 +1,18 @@
 // Many dots at once.
 ghost use Rattle.std.specs.Prelude.{ℕ, ◌≤◌, ◌≡◌, List};
+ghost use Rattle.refusals.specs.Refusal.{outcome_of};
 ghost use Rattle.chip.specs.Change.{changed_by, Tells};
-ghost use Rattle.chip.specs.Report.{dots_outcome};
 ghost use Rattle.chip.specs.Dots.{after_dots, ran};
 ghost use Rattle.chip.specs.Inner.{behind, WalksOn};
 
+use crate::answered::{Answered, ChangeAnswered};
 use crate::pass::Pass;
-use crate::report::{DotsAnswer, DotsChange, Dotted, Report};
 use crate::state::State;
-use chip_timing::Walk;
-use refusals::Answer;
+use chip_timing::{Signals, Walk};
 
 impl State {
     // On over dots that only move: all of them where nothing waits any more, else those before the next blanked one.
+    #[tactic(auto, using(crate::proofs::Passes::walks_all, crate::proofs::Passes::walks_to_blank))]
     fn walk(self, pass: Pass, count: u32) -> Walk
         requires { pass.taken ≤ self.queue.waiting }
         ensures { WalksOn self pass count result }
@@ -29,6 +29,7 @@ impl State {
     }
 
     // How far so many dots come: those that only move are passed over at once.
+    #[tactic(auto, unfolding(crate::specs::Dots::after_dots, chip_queue::specs::Queue::without, crate::specs::Inner::stored_by))]
     fn pass(self, count: u32) -> Pass
         ensures { (result.taken ≤ self.queue.waiting) × ((store : List ℕ) → behind (self, store) result ≡ after_dots count (self, store)) }
     {
@@ -52,41 +53,26 @@ impl State {
     }
 
     // What so many dots change.
-    pub fn dots_change(self, store: &mut [u32], count: u32) -> DotsChange
-        ensures { (((changed_by self result.change, store.new), dots_outcome result.answer) ≡ ran (self, store.old) count) × Tells self.queue result.change.queue }
+    #[tactic(auto, using(crate::proofs::CallCheck::allowed_says, crate::proofs::Runs::dots_unfit, crate::proofs::Runs::dots_none, crate::proofs::Runs::dots_some))]
+    pub fn dots_change(self, store: &mut [u32], count: u32) -> ChangeAnswered<Option<Signals>>
+        ensures { (((changed_by self result.change, store.new), outcome_of result.answer) ≡ ran (self, store.old) count) × Tells self.queue result.change.queue }
     {
-        let allowed = self.call_check(store.len());
-        if let Answer::Refused(refusal) = allowed {
-            return DotsChange {
-                change: self.unchanged(),
-                answer: DotsAnswer::Refused(refusal),
-            };
+        if let Err(refusal) = self.call_check(store.len()) {
+            return ChangeAnswered::refused(self, refusal);
         }
         if count == 0 {
-            return DotsChange {
+            return ChangeAnswered {
                 change: self.unchanged(),
-                answer: DotsAnswer::Reported(Report::Nothing),
+                answer: Ok(None),
             };
         }
-        let before = self.pass(count - 1);
-        let signals = self.signals(before.at);
-        let pass = self.one_more(before, signals.blank);
-        DotsChange {
-            change: self.passing(store, pass),
-            answer: DotsAnswer::Reported(Report::Last(signals)),
-        }
+        self.last_dot(store, self.pass(count - 1))
     }
 
     // So many dots.
-    pub fn dots(self, store: &mut [u32], count: u32) -> Dotted
-        ensures { ((result.state, store.new), dots_outcome result.answer) ≡ ran (self, store.old) count }
+    pub fn dots(self, store: &mut [u32], count: u32) -> Answered<Option<Signals>>
+        ensures { ((result.state, store.new), outcome_of result.answer) ≡ ran (self, store.old) count }
     {
-        let ran = self.dots_change(store, count);
-        let change = ran.change;
-        let answer = ran.answer;
-        Dotted {
-            state: self.changed(change),
-            answer,
-        }
+        self.dots_change(store, count).applied(self)
     }
 }

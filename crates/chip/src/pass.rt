@@ -26,65 +26,53 @@ pub(crate) struct Pass {
 fn drains(blank: bool, waiting: u32) -> bool
     ensures { result ≡ (blank && ltb 0 waiting) }
 {
-    if blank { 0 < waiting } else { false }
+    blank && 0 < waiting
 }
 
 // So many of the oldest writes go into their places in the store.
-fn apply(queue: Queue, store: &mut [u32], taken: u32)
-    requires { (good_queue queue ≡ true) × (taken ≤ queue.waiting) × (length store.old ≡ store_length) }
-    ensures { store.new ≡ stored_by taken queue store.old }
+#[tactic(auto, using(crate::proofs::Stored::stored_none, crate::proofs::Stored::stored_length, crate::proofs::Stored::few_wait, crate::proofs::Stored::taken_inside, crate::proofs::Stored::stored_more))]
+fn apply(queue: &Queue, store: &mut [u32], taken: u32)
+    requires { (good_queue queue.now ≡ true) × (taken ≤ queue.now.waiting) × (length store.old ≡ store_length) }
+    ensures { store.new ≡ stored_by taken queue.now store.old }
 {
-    let count = taken as usize;
-    let mut i: usize = 0;
-    while i < count {
-        let write = queue.slots[i];
-        let index = write.target();
-        store[index] = write.value;
-        i += 1;
+    for write in &queue.slots[..taken as usize] {
+        store[write.target()] = write.value;
     }
 }
 
 impl State {
     // One dot more: it applies a write, if it is blanked and something waits; then it moves.
+    #[tactic(auto, using(crate::proofs::Passes::more_wait, crate::proofs::Passes::one_taken, crate::proofs::Passes::none_taken))]
     pub(crate) fn one_more(self, pass: Pass, blank: bool) -> Pass
         requires { (pass.taken ≤ self.queue.waiting) × ((signals_at (windows_of self) pass.at).blank ≡ blank) }
         ensures { (result.taken ≤ self.queue.waiting) × ((store : List ℕ) → behind (self, store) result ≡ after_dot (behind (self, store) pass)) }
     {
-        let here = pass.at;
-        let at = here.next(self.control[1]);
-        if drains(blank, self.queue.waiting - pass.taken) {
-            return Pass {
-                at,
-                taken: pass.taken + 1,
-            };
-        }
-        Pass {
-            at,
-            taken: pass.taken,
-        }
+        let at = pass.at.next(self.control[1]);
+        let taken = if drains(blank, self.queue.waiting - pass.taken) {
+            pass.taken + 1
+        } else {
+            pass.taken
+        };
+        Pass { at, taken }
     }
 
     // What dots that come so far change, when the writes that they take are in the store.
+    #[tactic(auto, using(crate::proofs::Good::good_says, crate::proofs::Passes::none_leave))]
     pub(crate) fn passing(self, store: &mut [u32], pass: Pass) -> Change
         requires { (good_state self ≡ true) × (pass.taken ≤ self.queue.waiting) × (length store.old ≡ store_length) }
         ensures { ((changed_by self result, store.new) ≡ behind (self, store.old) pass) × Tells self.queue result.queue }
     {
+        let queue = if pass.taken == 0 {
+            QueueChange::Same
+        } else {
+            apply(&self.queue, store, pass.taken);
+            QueueChange::Drained(pass.taken)
+        };
         let control = self.control;
-        let at = pass.at;
-        let taken = pass.taken;
-        if taken == 0 {
-            return Change {
-                control,
-                at,
-                queue: QueueChange::Same,
-            };
-        }
-        let queue = self.queue;
-        apply(queue, store, taken);
         Change {
             control,
-            at,
-            queue: QueueChange::Drained(taken),
+            at: pass.at,
+            queue,
         }
     }
 }

@@ -1,14 +1,14 @@
 // The state: control words, position and queue, passed by value.
 ghost use Rattle.std.specs.Prelude.{◌≡◌};
 ghost use Rattle.rules.specs.Checked.{verdict};
-ghost use Rattle.refusals.specs.Refusal.{answer_outcome};
+ghost use Rattle.refusals.specs.Refusal.{outcome_of};
 ghost use Rattle.chip.specs.State.{fresh, good_words, good_state, windows_of};
 ghost use Rattle.chip.specs.Call.{call_faults};
 
 use chip_queue::Queue;
 use chip_registers::{Block, Register};
 use chip_timing::{Position, Windows};
-use refusals::{Answer, Refusal};
+use refusals::Refusal;
 
 // All that the chip holds besides the store.
 #[repr(C)]
@@ -26,16 +26,12 @@ pub struct State {
 fn good_words(control: [u32; 9]) -> bool
     ensures { result ≡ good_words 0 control }
 {
-    let mut word: usize = 0;
-    while word < 9 {
-        let value = control[word];
+    for (word, value) in control.iter().enumerate() {
         let register = Register {
             block: Block::Control,
             word: word as u32,
         };
-        if register.fits(value) {
-            word += 1;
-        } else {
+        if !register.fits(*value) {
             return false;
         }
     }
@@ -55,37 +51,27 @@ impl State {
     }
 
     // Whether the state keeps its rule.
+    #[tactic(auto, using(chip_queue::proofs::Rule::none_good), unfolding(crate::specs::State::good_state))]
     pub fn good(self) -> bool
         ensures { result ≡ good_state self }
     {
-        let control = self.control;
-        if !good_words(control) {
-            return false;
-        }
-        if 4095 < self.at.x {
-            return false;
-        }
-        if 4095 < self.at.y {
-            return false;
-        }
-        if self.queue.waiting == 0 {
-            return true;
-        }
-        let queue = self.queue;
-        queue.good()
+        good_words(self.control)
+            && self.at.x <= 4095
+            && self.at.y <= 4095
+            && (self.queue.waiting == 0 || self.queue.good())
     }
 
     // Whether a call may go on with this state and a store of so many words.
-    pub(crate) fn call_check(self, words: usize) -> Answer
-        ensures { answer_outcome result ≡ verdict (call_faults self words) }
+    pub(crate) fn call_check(self, words: usize) -> Result<(), Refusal>
+        ensures { outcome_of result ≡ verdict (call_faults self words) }
     {
         if !self.good() {
-            return Answer::Refused(Refusal::BadState);
+            return Err(Refusal::BadState);
         }
         if words != chip_registers::STORE_WORDS {
-            return Answer::Refused(Refusal::StoreLength);
+            return Err(Refusal::StoreLength);
         }
-        Answer::Done
+        Ok(())
     }
 
     // Control words 2 to 5.

@@ -1,136 +1,82 @@
 // Register writes.
-ghost use Rattle.std.specs.Prelude.{◌<◌, ◌≡◌, false, ◌&&◌, length};
-ghost use Rattle.refusals.specs.Refusal.{answer_outcome};
+ghost use Rattle.std.specs.Prelude.{◌<◌, ◌≡◌, ◌++◌, false, ◌&&◌, length};
+ghost use Rattle.rules.specs.Checked.{verdict};
+ghost use Rattle.refusals.specs.Refusal.{outcome_of};
 ghost use Rattle.chip_registers.specs.Blocks.{count};
 ghost use Rattle.chip_registers.specs.Named.{named};
 ghost use Rattle.chip_registers.specs.Store.{store_length};
 ghost use Rattle.chip_registers.specs.Access.{read_only, waits};
 ghost use Rattle.chip_queue.specs.Queue.{full};
+ghost use Rattle.chip.specs.Call.{call_faults};
 ghost use Rattle.chip.specs.Change.{changed_by, Tells};
-ghost use Rattle.chip.specs.Write.{put, written};
-ghost use Rattle.chip.specs.Inner.{write_test, Judged};
+ghost use Rattle.chip.specs.Write.{address_faults, put, written};
+ghost use Rattle.chip.specs.Inner.{Judged};
 
+use crate::answered::{Answered, ChangeAnswered};
 use crate::change::{Change, QueueChange};
 use crate::state::State;
 use chip_queue::Waiting;
-use chip_registers::{Named, Register, StorePlace};
-use refusals::{Answer, Refusal};
-
-// The state that a write hands back, and its answer.
-#[derive(Drop)]
-pub struct Written {
-    // the state after the write; as it was where that is refused
-    pub state: State,
-    // whether the write was done
-    pub answer: Answer,
-}
-
-// What a write changes of the state, and its answer.
-#[derive(Drop)]
-pub struct WriteChange {
-    // what it changes
-    pub change: Change,
-    // whether the write was done
-    pub answer: Answer,
-}
-
-// What becomes of a write: it goes to a register, or is refused.
-#[derive(Drop)]
-enum Verdict {
-    // it goes to this register
-    To(Register),
-    // it is refused, for this reason
-    Refused(Refusal),
-}
-
-// What becomes of a write, by whether the call may go on, by its address and value and by whether the queue is full.
-fn judged(allowed: Answer, address: u32, value: u32, full: bool) -> Verdict
-    ensures { Judged (write_test allowed full address value) (named address) result }
-{
-    if let Answer::Refused(refusal) = allowed {
-        return Verdict::Refused(refusal);
-    }
-    let place = chip_registers::place(address);
-    let named = Register::at(address);
-    let Named::Is(register) = named else {
-        return Verdict::Refused(Refusal::NoRegister(place));
-    };
-    if register.read_only() {
-        return Verdict::Refused(Refusal::ReadOnly(place));
-    }
-    if !register.fits(value) {
-        return Verdict::Refused(Refusal::StrayBits(place));
-    }
-    if register.waits() {
-        if full {
-            return Verdict::Refused(Refusal::QueueFull(place));
-        }
-    }
-    Verdict::To(register)
-}
+use chip_registers::Register;
+use refusals::Refusal;
 
 impl State {
+    // The register that a write goes to, or why it is refused.
+    fn judged(self, words: usize, address: u32, value: u32) -> Result<Register, Refusal>
+        ensures { Judged (verdict (call_faults self words ++ address_faults (full self.queue) address value)) (named address) result }
+    {
+        self.call_check(words)?;
+        let place = chip_registers::place(address);
+        let Some(register) = Register::at(address) else {
+            return Err(Refusal::NoRegister(place));
+        };
+        if register.read_only() {
+            return Err(Refusal::ReadOnly(place));
+        }
+        if !register.fits(value) {
+            return Err(Refusal::StrayBits(place));
+        }
+        if register.waits() && self.queue.full() {
+            return Err(Refusal::QueueFull(place));
+        }
+        Ok(register)
+    }
+
     // What a write to a register changes: it joins the queue where it waits; else its value goes into the store or into a control word.
     fn put(self, store: &mut [u32], register: Register, value: u32) -> Change
         requires { (read_only register ≡ false) × (register.word < count register.block) × (length store.old ≡ store_length) × ((waits register && full self.queue) ≡ false) }
         ensures { ((changed_by self result, store.new) ≡ put (self, store.old) register value) × Tells self.queue result.queue }
     {
-        let word = register.word;
-        let mut control = self.control;
-        let at = self.at;
+        let mut change = self.unchanged();
         if register.waits() {
-            return Change {
-                control,
-                at,
-                queue: QueueChange::Joined(Waiting { word, value }),
-            };
+            let word = register.word;
+            change.queue = QueueChange::Joined(Waiting { word, value });
+            return change;
         }
-        let place = register.store_place();
-        match place {
-            StorePlace::At(index) => {
-                store[index] = value;
-                self.unchanged()
-            }
-            StorePlace::Nowhere => {
-                let index = word as usize;
-                control[index] = value;
-                Change {
-                    control,
-                    at,
-                    queue: QueueChange::Same,
-                }
-            }
+        match register.store_place() {
+            Some(index) => store[index] = value,
+            None => change.control[register.word as usize] = value,
         }
+        change
     }
 
     // What one register write changes.
-    pub fn write_change(self, store: &mut [u32], address: u32, value: u32) -> WriteChange
-        ensures { (((changed_by self result.change, store.new), answer_outcome result.answer) ≡ written (self, store.old) address value) × Tells self.queue result.change.queue }
+    #[tactic(auto, using(crate::proofs::Writes::write_refused, crate::proofs::Writes::write_goes, crate::proofs::Writes::goes_says, chip_registers::proofs::Naming::named_word))]
+    pub fn write_change(self, store: &mut [u32], address: u32, value: u32) -> ChangeAnswered<()>
+        ensures { (((changed_by self result.change, store.new), outcome_of result.answer) ≡ written (self, store.old) address value) × Tells self.queue result.change.queue }
     {
-        let queue = self.queue;
-        let verdict = judged(self.call_check(store.len()), address, value, queue.full());
-        match verdict {
-            Verdict::To(register) => WriteChange {
+        match self.judged(store.len(), address, value) {
+            Ok(register) => ChangeAnswered {
                 change: self.put(store, register, value),
-                answer: Answer::Done,
+                answer: Ok(()),
             },
-            Verdict::Refused(refusal) => WriteChange {
-                change: self.unchanged(),
-                answer: Answer::Refused(refusal),
-            },
+            Err(refusal) => ChangeAnswered::refused(self, refusal),
         }
     }
 
     // One register write.
-    pub fn write(self, store: &mut [u32], address: u32, value: u32) -> Written
-        ensures { ((result.state, store.new), answer_outcome result.answer) ≡ written (self, store.old) address value }
+    pub fn write(self, store: &mut [u32], address: u32, value: u32) -> Answered<()>
+        ensures { ((result.state, store.new), outcome_of result.answer) ≡ written (self, store.old) address value }
     {
-        let wrote = self.write_change(store, address, value);
-        let change = wrote.change;
-        let answer = wrote.answer;
-        Written {
-            state: self.changed(change),
-            answer,
-        }
+        self.write_change(store, address, value).applied(self)
     }
 }

@@ -3,18 +3,16 @@ use Prim.Native.Nat.{ℕ, zero, suc}
 use mathlib.Core.Path.{◌≡◌, refl, sym, subst}
 use mathlib.Core.List.{List, [], ◌∷◌, ◌++◌}
 use lib.ListN.{replicate}
+use Rattle.std.specs.Prelude.{Some, Option}
 use Rattle.rules.specs.Rule.{Outcome, ok, refused}
 use Rattle.rules.specs.Faults.{Numbered}
 use Rattle.chip_registers.specs.declared.Register.{Register}
-use Rattle.chip_registers.specs.declared.Named.TheVariants.{Is}
 use Rattle.chip_queue.specs.declared.Waiting.{Waiting}
 use Rattle.chip.specs.State.{HasArrays}
 use Rattle.chip.specs.Call.{Chip}
 use Rattle.chip.specs.Write.{put, written}
 use Rattle.chip.specs.Dot.{signals_of, after_dot, dotted}
 use Rattle.chip.specs.Dots.{ran}
-use Rattle.chip.specs.declared.report.Report.{Report}
-use Rattle.chip.specs.declared.report.Report.TheVariants.{Last}
 use Rattle.chip.proofs.Good.{put_whole, dot_whole, dots_whole}
 use Rattle.chip.proofs.CallCheck.{tested, GoesOn}
 use Rattle.chip.proofs.Readings.{read_same}
@@ -23,6 +21,7 @@ use Rattle.chip_history.specs.Calls.{Call, write, read, dot, dots, line, left_by
 use Rattle.chip_history.specs.Ledger.{colour_write, accepts, accepted, blanked_by, blanked_dots, blanks, blanked}
 use Rattle.chip_history.proofs.Wrote.{Put, Wrote, nothing, into, wrote}
 use Rattle.chip_history.proofs.DotByDot.{dots_as_dots}
+use Rattle.chip_timing.specs.declared.Signals.{Signals}
 
 -- ---- the arrays keep their sizes
 
@@ -68,8 +67,8 @@ pub record Law (Holds : Chip → List (List Waiting) → List Waiting → Chip �
   pub then : (first middle last : Chip) (dark dark' : List (List Waiting)) (took took' : List Waiting)
       → Holds first dark took middle → Holds middle dark' took' last → Holds first (dark ++ dark') (took ++ took') last
   pub puts : (chip : Chip) (address value : ℕ) (register : Register) → HasArrays chip.0 → Put chip address value register
-      → Holds chip [] (colour_write (Is register) value) (put chip register value)
-  pub step : (chip : Chip) → HasArrays chip.0 → GoesOn chip → Holds chip (blanked_by (ok (Last (signals_of chip.0))) chip.0.queue) [] (after_dot chip)
+      → Holds chip [] (colour_write (Some register) value) (put chip register value)
+  pub step : (chip : Chip) → HasArrays chip.0 → GoesOn chip → Holds chip (blanked_by (ok (Some (signals_of chip.0))) chip.0.queue) [] (after_dot chip)
 
 module _ (Holds : Chip → List (List Waiting) → List Waiting → Chip → Type 0) (law : Law Holds) where
   -- the law holds of a write
@@ -79,7 +78,7 @@ module _ (Holds : Chip → List (List Waiting) → List Waiting → Chip → Typ
   law_write chip address value whole (into register p) = rw (p.left, p.taken) (law.puts chip address value register whole p)
 
   -- the law holds of a dot that left this and answered so
-  abbrev Dotted : Chip → Chip × Outcome Numbered Report → Type 0
+  abbrev Dotted : Chip → Chip × Outcome Numbered (Option Signals) → Type 0
   Dotted chip all = Holds chip (blanked_by all.1 chip.0.queue) [] all.0
 
   -- the law holds of a dot

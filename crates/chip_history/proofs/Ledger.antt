@@ -7,12 +7,12 @@ use native.Mathlib.Omega.{arith}
 use borrow.Author.Tests.{ltb-true, ltb-false}
 use lib.Dec.{ltb}
 use lib.ListN.{length, length-append}
+use Rattle.std.specs.Prelude.{Some}
 use Rattle.rules.specs.Rule.{ok}
 use Rattle.chip_timing.specs.declared.Signals.{Signals}
 use Rattle.chip_registers.specs.Access.{waits_in}
 use Rattle.chip_registers.specs.declared.Block.{Block}
 use Rattle.chip_registers.specs.declared.Block.TheVariants.{Control, WindowEntries, ColourMap, GammaMap, CursorGlyph, CursorColours}
-use Rattle.chip_registers.specs.declared.Named.TheVariants.{Is}
 use Rattle.chip_queue.specs.Queue.{waiting_in, full, oldest, HasSlots}
 use Rattle.chip_queue.specs.declared.Waiting.{Waiting}
 use Rattle.chip_queue.specs.declared.Queue.{Queue}
@@ -22,7 +22,6 @@ use Rattle.chip.specs.State.{fresh, good_state, HasArrays}
 use Rattle.chip.specs.Call.{Chip}
 use Rattle.chip.specs.Write.{put}
 use Rattle.chip.specs.Dot.{signals_of, drains, oldest_applied, after_dot}
-use Rattle.chip.specs.declared.report.Report.TheVariants.{Last}
 use Rattle.chip.proofs.Good.{good_says, not_full, fresh_whole, fresh_good}
 use Rattle.chip.proofs.CallCheck.{allowed_says}
 use Rattle.chip_history.specs.Calls.{Call, end}
@@ -35,7 +34,7 @@ use Rattle.chip_history.proofs.Acts.{Acts, still, joins, leaves, finds_none, act
 
 -- a colour write joins the queue, and any other leaves it
 put_acts : (chip : Chip) (block : Block) (word value : ℕ) → HasSlots chip.0.queue → (waits_in block && full chip.0.queue) ≡ false
-    → Acts (waiting_in chip.0.queue) [] (colour_write (Is (record { block = block; word = word })) value)
+    → Acts (waiting_in chip.0.queue) [] (colour_write (Some (record { block = block; word = word })) value)
     (waiting_in (put chip (record { block = block; word = word }) value).0.queue)
 put_acts chip Control word value sized free = still
 put_acts chip WindowEntries word value sized free = still
@@ -70,7 +69,7 @@ one_or_none true some = refl
 one_or_none false some = refl
 
 -- a dot that reported blank counts as one, whether or not something waits, and no other dot counts
-pub blank_counts : (signals : Signals) (queue : Queue) → length (blanked_by (ok (Last signals)) queue) ≡ cond signals.blank 1 0
+pub blank_counts : (signals : Signals) (queue : Queue) → length (blanked_by (ok (Some signals)) queue) ≡ cond signals.blank 1 0
 blank_counts signals queue = one_or_none signals.blank (front queue)
 
 -- ---- every sequence

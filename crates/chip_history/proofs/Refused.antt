@@ -5,12 +5,12 @@ use mathlib.Core.Bool.{true, false≢true}
 use mathlib.Core.List.{List, [], ◌∷◌, ◌++◌}
 use native.Mathlib.Omega.{arith}
 use lib.ListN.{length}
+use Rattle.std.specs.Prelude.{Option, Some, None}
 use Rattle.rules.specs.Rule.{refused}
 use Rattle.rules.specs.Faults.{Numbered, Fault, First, unless}
 use Rattle.rules.proofs.Faults.{first_holds, refused_first}
 use Rattle.chip_registers.specs.Named.{address_place, named}
-use Rattle.chip_registers.specs.declared.Named.{Named}
-use Rattle.chip_registers.specs.declared.Named.TheVariants.{Is, Nothing}
+use Rattle.chip_registers.specs.declared.Register.{Register}
 use Rattle.chip_queue.specs.Queue.{full}
 use Rattle.chip.specs.State.{good_state}
 use Rattle.chip.specs.Call.{Chip, call_faults}
@@ -18,7 +18,6 @@ use Rattle.chip.specs.Write.{register_faults, address_faults, write_faults, put_
 use Rattle.chip.specs.Read.{address_shows, name_faults, read_faults, read_back}
 use Rattle.chip.specs.Dot.{signals_of, after_dot, dotted}
 use Rattle.chip.specs.Dots.{after_dots, last_report, ran}
-use Rattle.chip.specs.declared.report.Report.TheVariants.{Last}
 use Rattle.chip_history.specs.Calls.{Call, write, read, dot, dots, line, left_by, faults_of, RefusedBy}
 
 -- what refuses a call is the first of its faults that holds
@@ -26,7 +25,7 @@ pub refused_exactly : (chip : Chip) (call : Call) (refusal : Numbered) → Refus
 unfolding written read_back dotted ran
 refused_exactly chip (write address value) refusal e = refused_first chip (put_named chip (named address) value, tt) (write_faults chip address value) refusal e
 refused_exactly chip (read address) refusal e = refused_first chip (chip, address_shows chip (named address)) (read_faults chip address) refusal e
-refused_exactly chip dot refusal e = refused_first chip (after_dot chip, Last (signals_of chip.0)) (call_faults chip.0 (length chip.1)) refusal e
+refused_exactly chip dot refusal e = refused_first chip (after_dot chip, Some (signals_of chip.0)) (call_faults chip.0 (length chip.1)) refusal e
 refused_exactly chip (dots count) refusal e = refused_first chip (after_dots count chip, last_report count chip) (call_faults chip.0 (length chip.1)) refusal e
 refused_exactly chip line refusal e = absurd e
 
@@ -39,7 +38,7 @@ exactly_refused chip (write address value) refusal real f =
 exactly_refused chip (read address) refusal real f =
     let e = first_holds chip (chip, address_shows chip (named address)) (read_faults chip address) refusal f in (ap (λ all. all.1) e, ap (λ all. all.0) e)
 exactly_refused chip dot refusal real f =
-    let e = first_holds chip (after_dot chip, Last (signals_of chip.0)) (call_faults chip.0 (length chip.1)) refusal f in (ap (λ all. all.1) e, ap (λ all. all.0) e)
+    let e = first_holds chip (after_dot chip, Some (signals_of chip.0)) (call_faults chip.0 (length chip.1)) refusal f in (ap (λ all. all.1) e, ap (λ all. all.0) e)
 exactly_refused chip (dots count) refusal real f =
     let e = first_holds chip (after_dots count chip, last_report count chip) (call_faults chip.0 (length chip.1)) refusal f in (ap (λ all. all.1) e, ap (λ all. all.0) e)
 exactly_refused chip line refusal real f = absurd (real refl)
@@ -77,14 +76,14 @@ module _ (chip : Chip) (good : good_state chip.0 ≡ true) where
   avoids_11 others avoids = (λ holds e. false≢true (rw good at holds), (λ holds e. omega arith, avoids))
 
   -- what an address names is no fault of number 11 of a write
-  write_avoids : (names : Named) (place value : ℕ) → Avoids 11 (register_faults (full chip.0.queue) names place value)
-  write_avoids Nothing place value = (λ holds e. omega arith, tt)
-  write_avoids (Is register) place value = (λ holds e. omega arith, (λ holds e. omega arith, (λ holds e. omega arith, tt)))
+  write_avoids : (names : Option Register) (place value : ℕ) → Avoids 11 (register_faults (full chip.0.queue) names place value)
+  write_avoids None place value = (λ holds e. omega arith, tt)
+  write_avoids (Some register) place value = (λ holds e. omega arith, (λ holds e. omega arith, (λ holds e. omega arith, tt)))
 
   -- what an address names is no fault of number 11 of a read
-  read_avoids : (names : Named) (place : ℕ) → Avoids 11 (name_faults names place)
-  read_avoids Nothing place = (λ holds e. omega arith, tt)
-  read_avoids (Is register) place = tt
+  read_avoids : (names : Option Register) (place : ℕ) → Avoids 11 (name_faults names place)
+  read_avoids None place = (λ holds e. omega arith, tt)
+  read_avoids (Some register) place = tt
 
   -- where the state keeps its rule, no call is refused by 11
   pub good_not_11 : (call : Call) (refusal : Numbered) → RefusedBy chip call refusal → refusal.number ≡ 11 → ⊥
@@ -98,7 +97,7 @@ module _ (chip : Chip) (good : good_state chip.0 ≡ true) where
       (avoids_11 (name_faults (named address) (address_place address)) (read_avoids (named address) (address_place address)))
       refusal e
   good_not_11 dot refusal e =
-      avoids_all chip (after_dot chip, Last (signals_of chip.0)) (call_faults chip.0 (length chip.1)) 11 (avoids_11 [] tt) refusal e
+      avoids_all chip (after_dot chip, Some (signals_of chip.0)) (call_faults chip.0 (length chip.1)) 11 (avoids_11 [] tt) refusal e
   good_not_11 (dots count) refusal e =
       avoids_all chip (after_dots count chip, last_report count chip) (call_faults chip.0 (length chip.1)) 11 (avoids_11 [] tt) refusal e
   good_not_11 line refusal e = absurd e

@@ -4,6 +4,7 @@ use mathlib.Core.Path.{◌≡◌, refl, ap, ◌∙◌}
 use mathlib.Core.Bool.{true, false, ◌&&◌}
 use mathlib.Core.List.{[]}
 use lib.ListN.{length}
+use Rattle.std.specs.Prelude.{Option, Some}
 use Rattle.rules.specs.Rule.{Outcome, ok, refused}
 use Rattle.rules.specs.Faults.{Numbered}
 use Rattle.rules.proofs.Faults.{refused_leaves}
@@ -12,8 +13,6 @@ use Rattle.chip_registers.specs.Named.{named}
 use Rattle.chip_registers.specs.Kept.{fits}
 use Rattle.chip_registers.specs.Access.{waits}
 use Rattle.chip_registers.specs.declared.Register.{Register}
-use Rattle.chip_registers.specs.declared.Named.{Named}
-use Rattle.chip_registers.specs.declared.Named.TheVariants.{Is}
 use Rattle.chip_registers.proofs.Naming.{named_word}
 use Rattle.chip_queue.specs.Queue.{full}
 use Rattle.chip.specs.Call.{Chip}
@@ -30,7 +29,7 @@ pub record Put (chip : Chip) (address value : ℕ) (register : Register) : Type 
   pub fine : fits register value ≡ true
   pub free : (waits register && full chip.0.queue) ≡ false
   pub left : (written chip address value).0 ≡ put chip register value
-  pub taken : accepts chip (write address value) ≡ colour_write (Is register) value
+  pub taken : accepts chip (write address value) ≡ colour_write (Some register) value
 
 -- what a write did: nothing where it was refused, else it put its value into the register that it names
 pub data Wrote (chip : Chip) (address value : ℕ) : Type 0 where
@@ -51,7 +50,7 @@ module _ (chip : Chip) (address value : ℕ) where
         left = on.left;
         taken =
             ap (λ (outcome : Outcome Numbered Unit). accepted_by outcome (colour_write (named address) value)) done
-            ∙ ap (λ (names : Named). colour_write names value) on.names;
+            ∙ ap (λ (names : Option Register). colour_write names value) on.names;
       }
 
   -- every write put its value into a register, or did nothing

@@ -1,12 +1,11 @@
 -- The colour writes that a sequence of calls accepts, and those that it applies, in order.
-use Rattle.std.specs.Prelude.{ℕ, zero, suc, ◌+◌, cond, List, [], ◌∷◌, ◌++◌, ltb, eqb}
+use Rattle.std.specs.Prelude.{ℕ, zero, suc, ◌+◌, cond, List, [], ◌∷◌, ◌++◌, ltb, eqb, Option, Some, None}
 use Rattle.rules.specs.Rule.{Outcome, ok, refused}
 use Rattle.rules.specs.Lists.{joined}
 use Rattle.rules.specs.Faults.{Numbered}
 use Rattle.chip_registers.specs.Named.{named}
 use Rattle.chip_registers.specs.Access.{waits}
-use Rattle.chip_registers.specs.declared.Named.{Named}
-use Rattle.chip_registers.specs.declared.Named.TheVariants.{Is, Nothing}
+use Rattle.chip_registers.specs.declared.Register.{Register}
 use Rattle.chip_queue.specs.Queue.{oldest}
 use Rattle.chip_queue.specs.Waiting.{write_to}
 use Rattle.chip_queue.specs.declared.Waiting.{Waiting}
@@ -14,16 +13,15 @@ use Rattle.chip_queue.specs.declared.Queue.{Queue}
 use Rattle.chip.specs.Call.{Chip}
 use Rattle.chip.specs.Write.{written}
 use Rattle.chip.specs.Dot.{dotted}
-use Rattle.chip.specs.declared.report.Report.{Report}
-use Rattle.chip.specs.declared.report.Report.TheVariants.{Nothing as NoReport, Last}
 use Rattle.chip_history.specs.Calls.{Call, write, read, dot, dots, line, left_by}
+use Rattle.chip_timing.specs.declared.Signals.{Signals}
 
 -- ---- accepted
 
 -- a write to a register of the colour map is a colour write (CHIP 3.6)
-abbrev pub colour_write : Named → ℕ → List Waiting
-colour_write Nothing value = []
-colour_write (Is register) value = cond (waits register) (write_to register value ∷ []) []
+abbrev pub colour_write : Option Register → ℕ → List Waiting
+colour_write None value = []
+colour_write (Some register) value = cond (waits register) (write_to register value ∷ []) []
 
 -- the colour write of a write that was done; none of one that was refused
 abbrev pub accepted_by : Outcome Numbered (Unit {0}) → List Waiting → List Waiting
@@ -50,9 +48,9 @@ abbrev pub front : Queue → List Waiting
 front queue = cond (ltb 0 queue.waiting) (oldest queue ∷ []) []
 
 -- for a dot that reported blank one list, of what it applies: the oldest write, or nothing where nothing waits; for any other dot no list (CHIP 3.8)
-abbrev pub blanked_by : Outcome Numbered Report → Queue → List (List Waiting)
-blanked_by (ok NoReport) queue = []
-blanked_by (ok (Last signals)) queue = cond signals.blank (front queue ∷ []) []
+abbrev pub blanked_by : Outcome Numbered (Option Signals) → Queue → List (List Waiting)
+blanked_by (ok None) queue = []
+blanked_by (ok (Some signals)) queue = cond signals.blank (front queue ∷ []) []
 blanked_by (refused refusal) queue = []
 
 -- what each blanked dot applies, of so many dots (CHIP 3.8)
