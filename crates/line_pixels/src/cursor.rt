@@ -8,7 +8,7 @@ ghost use Rattle.line_pixels.specs.Spans.{CommonSpan, NoneBeside};
 
 use crate::Screen;
 use crate::store::stored;
-use chip_registers::{Block, Register};
+use chip_registers::{Block, Register, STORE_WORDS};
 use line_colour::entry::WindowEntry;
 
 // The columns and the rows of the glyph.
@@ -21,8 +21,8 @@ const GLYPH_LAST: usize = 31;
 const WORD_CELLS: usize = 16;
 
 // The number in a cell of the glyph.
-fn glyph_cell(store: &[u32], row: usize, column: usize) -> u32
-    requires { (length store.now ≡ store_length) × (row < 32) × (column < 32) }
+fn glyph_cell(store: &[u32; STORE_WORDS], row: usize, column: usize) -> u32
+    requires { (row < 32) × (column < 32) }
     ensures { (result ≡ glyph_cell store.now row column) × (result < 4) }
 {
     let register = Register {
@@ -89,8 +89,7 @@ fn common_span(x: usize, count: usize, first: usize, last: usize) -> Span
 
 impl Screen {
     // Which cursor colour shows at a pixel, 0 for none.
-    pub(crate) fn cursor_at(self, store: &[u32], x: usize) -> u32
-        requires { length store.now ≡ store_length }
+    pub(crate) fn cursor_at(self, store: &[u32; STORE_WORDS], x: usize) -> u32
         ensures { OverStore store.now (cursor_at self x) result × (result < 4) }
     {
         if !self.cursor {
@@ -142,8 +141,7 @@ impl Screen {
     }
 
     // The cursor colour of a pixel, or what is under it where none shows.
-    fn cursor_or(self, entry: WindowEntry, store: &[u32], x: usize, under: u32) -> u32
-        requires { length store.now ≡ store_length }
+    fn cursor_or(self, entry: WindowEntry, store: &[u32; STORE_WORDS], x: usize, under: u32) -> u32
         ensures { OverStore store.now (cursor_or self entry x under) result }
     {
         let number = self.cursor_at(store, x);
@@ -157,12 +155,12 @@ impl Screen {
     pub(crate) fn lay_cursor(
         self,
         entry: WindowEntry,
-        store: &[u32],
+        store: &[u32; STORE_WORDS],
         x: usize,
         count: usize,
         out: &mut [u32],
     )
-        requires { (length store.now ≡ store_length) × (x + count ≤ 65536) × (count ≤ length out.old) }
+        requires { (x + count ≤ 65536) × (count ≤ length out.old) }
         ensures { CursorLaid self entry store.now x out.old count out.new }
     {
         let span = self.cursor_span(x, count);

@@ -6,6 +6,7 @@ ghost use Rattle.line_pixels.specs.Cells.{pixel_view};
 ghost use Rattle.line_pixels.specs.Colour.{colour_of_pixel};
 ghost use Rattle.line_pixels.specs.Inner.{PlainLent, PixelsLent, FilledPlain, FilledUnder, FilledPixels};
 
+use chip_registers::STORE_WORDS;
 use crate::Screen;
 use crate::correction::correct;
 use crate::lengths::{LAYERED_RUN, PAIRED_RUN, shortest_looked_up};
@@ -49,7 +50,7 @@ fn samples_of_8(format: Format) -> bool
 fn fill_plain(
     depth: u32,
     entry: WindowEntry,
-    store: &[u32],
+    store: &[u32; STORE_WORDS],
     normal: &[u8],
     x: usize,
     count: usize,
@@ -84,7 +85,7 @@ impl Screen {
     fn fill_pixels(
         self,
         entry: WindowEntry,
-        store: &[u32],
+        store: &[u32; STORE_WORDS],
         normal: &[u8],
         overlay: &[u8],
         x: usize,
@@ -105,7 +106,7 @@ impl Screen {
     fn fill_under_cursor(
         self,
         entry: WindowEntry,
-        store: &[u32],
+        store: &[u32; STORE_WORDS],
         normal: &[u8],
         overlay: &[u8],
         x: usize,
@@ -125,7 +126,7 @@ impl Screen {
     fn fill_layers(
         self,
         entry: WindowEntry,
-        store: &[u32],
+        store: &[u32; STORE_WORDS],
         normal: &[u8],
         overlay: &[u8],
         x: usize,
@@ -143,7 +144,7 @@ impl Screen {
     pub fn fill(
         self,
         entry: WindowEntry,
-        store: &[u32],
+        store: &[u32; STORE_WORDS],
         normal: &[u8],
         overlay: &[u8],
         x: usize,

@@ -11,7 +11,7 @@ ghost use Rattle.line_pixels.specs.Inner.{PlainLent, OverlayLent, PixelsLent, Ov
 use crate::Screen;
 use crate::sampling::Sampling;
 use crate::store::stored;
-use chip_registers::{Block, GAMMA_MAP_END, GAMMA_MAP_START, Register};
+use chip_registers::{Block, GAMMA_MAP_END, GAMMA_MAP_START, Register, STORE_WORDS};
 use line_colour::entry::{Shown, WindowEntry};
 use line_formats::{Format, Index8, Index12};
 use words::Rgb;
@@ -31,8 +31,8 @@ pub(crate) fn pixel_word(depth: u32, normal: &[u8], x: usize) -> u32
 }
 
 // A word of the colour map.
-pub(crate) fn mapped(store: &[u32], entry: u32) -> u32
-    requires { (length store.now ≡ store_length) × (entry < count Block.ColourMap) }
+pub(crate) fn mapped(store: &[u32; STORE_WORDS], entry: u32) -> u32
+    requires { (entry < count Block.ColourMap) }
     ensures { OverStore store.now (get (map_entry entry)) result }
 {
     let register = Register {
@@ -43,7 +43,7 @@ pub(crate) fn mapped(store: &[u32], entry: u32) -> u32
 }
 
 // The normal colour of a pixel.
-fn normal_at(depth: u32, sampling: Sampling, store: &[u32], normal: &[u8], x: usize) -> u32
+fn normal_at(depth: u32, sampling: Sampling, store: &[u32; STORE_WORDS], normal: &[u8], x: usize) -> u32
     requires { PlainLent depth sampling.entry store.now normal.now (x + 1) × (sampling ≡ sampling_of sampling.entry) }
     ensures { OverNormal store.now normal.now (normal_at depth sampling.entry x) result }
 {
@@ -58,15 +58,14 @@ fn normal_at(depth: u32, sampling: Sampling, store: &[u32], normal: &[u8], x: us
             match shown {
                 // Not taken: these formats show colours of their own.
                 Shown::MapEntry(number) => mapped(store, number),
-                Shown::Colour(colour) => colour.word(),
+                Shown::Colour(colour) => u32::from(colour),
             }
         }
     }
 }
 
 // A colour through gamma, unless it skips it.
-pub(crate) fn through_gamma(store: &[u32], skips: bool, word: u32) -> u32
-    requires { length store.now ≡ store_length }
+pub(crate) fn through_gamma(store: &[u32; STORE_WORDS], skips: bool, word: u32) -> u32
     ensures { OverStore store.now (through_gamma skips word) result }
 {
     if skips {
@@ -74,13 +73,13 @@ pub(crate) fn through_gamma(store: &[u32], skips: bool, word: u32) -> u32
     }
     let corrected = line_colour::gamma::corrected(
         &store[GAMMA_MAP_START..GAMMA_MAP_END],
-        Rgb::of(word),
+        Rgb::from(word),
     );
-    corrected.word()
+    u32::from(corrected)
 }
 
 // The colour of a pixel where neither cursor nor overlay shows.
-fn plain_at(depth: u32, sampling: Sampling, store: &[u32], normal: &[u8], x: usize) -> u32
+fn plain_at(depth: u32, sampling: Sampling, store: &[u32; STORE_WORDS], normal: &[u8], x: usize) -> u32
     requires { PlainLent depth sampling.entry store.now normal.now (x + 1) × (sampling ≡ sampling_of sampling.entry) }
     ensures { OverNormal store.now normal.now (plain_at depth sampling.entry x) result }
 {
@@ -89,8 +88,8 @@ fn plain_at(depth: u32, sampling: Sampling, store: &[u32], normal: &[u8], x: usi
 }
 
 // The colour of an overlay byte.
-pub(crate) fn overlay_shown(entry: WindowEntry, store: &[u32], byte: u32) -> u32
-    requires { (length store.now ≡ store_length) × (byte < 256) }
+pub(crate) fn overlay_shown(entry: WindowEntry, store: &[u32; STORE_WORDS], byte: u32) -> u32
+    requires { (byte < 256) }
     ensures { OverStore store.now (overlaid entry byte) result }
 {
     through_gamma(store, entry.bypass, mapped(store, OVERLAY_COLOURS + byte))
@@ -119,7 +118,7 @@ impl Screen {
     fn under_cursor(
         self,
         entry: WindowEntry,
-        store: &[u32],
+        store: &[u32; STORE_WORDS],
         normal: &[u8],
         overlay: &[u8],
         x: usize,
@@ -142,8 +141,8 @@ impl Screen {
     }
 
     // A cursor colour over a window entry.
-    pub(crate) fn cursor_shown(self, entry: WindowEntry, store: &[u32], number: u32) -> u32
-        requires { (length store.now ≡ store_length) × (1 ≤ number) × (number < 4) }
+    pub(crate) fn cursor_shown(self, entry: WindowEntry, store: &[u32; STORE_WORDS], number: u32) -> u32
+        requires { (1 ≤ number) × (number < 4) }
         ensures { OverStore store.now (cursor_shown self entry number) result }
     {
         let register = Register {
@@ -158,7 +157,7 @@ impl Screen {
     pub(crate) fn colour_of_pixel(
         self,
         entry: WindowEntry,
-        store: &[u32],
+        store: &[u32; STORE_WORDS],
         normal: &[u8],
         overlay: &[u8],
         x: usize,

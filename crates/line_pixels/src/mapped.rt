@@ -11,13 +11,13 @@ use crate::index_12::{fill_bypassed, fill_corrected, is_index_12};
 use crate::layers::{mapped, through_gamma};
 use crate::lengths::SPLIT_WORDS;
 use crate::sampling::Sampling;
-use chip_registers::{Block, COLOUR_MAP_START};
+use chip_registers::{Block, COLOUR_MAP_START, STORE_WORDS};
 use line_colour::entry::WindowEntry;
 use line_formats::{Format, Index8};
 
 // The 256 colours of the map from entry `first` on.
-pub(crate) fn map_colours(store: &[u32], first: u32, colours: &mut [u32; 256])
-    requires { (length store.now ≡ store_length) × (first + 256 ≤ count Block.ColourMap) × (length colours.old ≡ 256) }
+pub(crate) fn map_colours(store: &[u32; STORE_WORDS], first: u32, colours: &mut [u32; 256])
+    requires { (first + 256 ≤ count Block.ColourMap) × (length colours.old ≡ 256) }
     ensures { (length colours.new ≡ 256) × ((k : ℕ) → k < 256 → OverStore store.now (get (map_entry (first + k))) (get_or colours.new k 0)) }
 {
     let mut k = 0;
@@ -28,8 +28,8 @@ pub(crate) fn map_colours(store: &[u32], first: u32, colours: &mut [u32; 256])
 }
 
 // The colour of a map entry: what `mapped` answers, by its place in the store.
-fn entry_colour(store: &[u32], number: u32) -> u32
-    requires { (length store.now ≡ store_length) × (number < count Block.ColourMap) }
+fn entry_colour(store: &[u32; STORE_WORDS], number: u32) -> u32
+    requires { (number < count Block.ColourMap) }
     ensures { result ≡ map_colour store.now number }
 {
     store[COLOUR_MAP_START + number as usize] % 16777216
@@ -55,7 +55,7 @@ fn fill_few(
     depth: u32,
     sampling: Sampling,
     first: u32,
-    store: &[u32],
+    store: &[u32; STORE_WORDS],
     normal: &[u8],
     x: usize,
     count: usize,
@@ -77,7 +77,7 @@ fn fill_few(
 pub(crate) fn fill_mapped(
     depth: u32,
     entry: WindowEntry,
-    store: &[u32],
+    store: &[u32; STORE_WORDS],
     normal: &[u8],
     x: usize,
     count: usize,

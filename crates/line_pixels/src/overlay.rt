@@ -4,6 +4,7 @@ ghost use Rattle.rules.specs.Lists.{changed};
 ghost use Rattle.chip_registers.specs.Store.{store_length};
 ghost use Rattle.line_pixels.specs.Inner.{OverStore, overlaid_or, Overlaid, overlaid_by};
 
+use chip_registers::STORE_WORDS;
 use crate::bytes::wide;
 use crate::correction::correct;
 use crate::fours::put_four;
@@ -13,8 +14,8 @@ use crate::mapped::map_colours;
 use line_colour::entry::WindowEntry;
 
 // The colour of an overlay byte, or what is under it where the byte is 0.
-fn overlay_or(entry: WindowEntry, store: &[u32], byte: u32, under: u32) -> u32
-    requires { (length store.now ≡ store_length) × (byte < 256) }
+fn overlay_or(entry: WindowEntry, store: &[u32; STORE_WORDS], byte: u32, under: u32) -> u32
+    requires { (byte < 256) }
     ensures { OverStore store.now (overlaid_or entry byte under) result }
 {
     if byte == 0 {
@@ -26,13 +27,13 @@ fn overlay_or(entry: WindowEntry, store: &[u32], byte: u32, under: u32) -> u32
 // Overlay over a short run: each colour is worked out for its pixel.
 fn lay_short(
     entry: WindowEntry,
-    store: &[u32],
+    store: &[u32; STORE_WORDS],
     overlay: &[u8],
     x: usize,
     count: usize,
     out: &mut [u32],
 )
-    requires { (length store.now ≡ store_length) × (x + count ≤ length overlay.now) × (count ≤ length out.old) }
+    requires { (x + count ≤ length overlay.now) × (count ≤ length out.old) }
     ensures { Overlaid entry store.now overlay.now x out.old count out.new }
 {
     let mut i = 0;
@@ -74,13 +75,13 @@ fn lay_by(colours: &[u32; 256], overlay: &[u8], x: usize, count: usize, out: &mu
 // Overlay over a long run.
 fn lay_long(
     entry: WindowEntry,
-    store: &[u32],
+    store: &[u32; STORE_WORDS],
     overlay: &[u8],
     x: usize,
     count: usize,
     out: &mut [u32],
 )
-    requires { (length store.now ≡ store_length) × (x + count ≤ length overlay.now) × (count ≤ length out.old) }
+    requires { (x + count ≤ length overlay.now) × (count ≤ length out.old) }
     ensures { Overlaid entry store.now overlay.now x out.old count out.new }
 {
     let mut colours = [0; 256];
@@ -92,13 +93,13 @@ fn lay_long(
 // Overlay over a run.
 pub(crate) fn lay_overlay(
     entry: WindowEntry,
-    store: &[u32],
+    store: &[u32; STORE_WORDS],
     overlay: &[u8],
     x: usize,
     count: usize,
     out: &mut [u32],
 )
-    requires { (length store.now ≡ store_length) × (x + count ≤ length overlay.now) × (count ≤ length out.old) }
+    requires { (x + count ≤ length overlay.now) × (count ≤ length out.old) }
     ensures { Overlaid entry store.now overlay.now x out.old count out.new }
 {
     if OVERLAY_RUN <= count {
