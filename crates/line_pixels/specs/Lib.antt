@@ -1,5 +1,4 @@
 pub mod Cells
-pub mod Sampling
 pub mod Cursor
 pub mod Colour
 pub mod Inner

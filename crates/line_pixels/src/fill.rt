@@ -6,7 +6,6 @@ ghost use Rattle.line_pixels.specs.Cells.{pixel_view};
 ghost use Rattle.line_pixels.specs.Colour.{colour_of_pixel};
 ghost use Rattle.line_pixels.specs.Inner.{PlainLent, PixelsLent, FilledPlain, FilledUnder, FilledPixels};
 
-use chip_registers::STORE_WORDS;
 use crate::Screen;
 use crate::correction::correct;
 use crate::lengths::{LAYERED_RUN, PAIRED_RUN, shortest_looked_up};
@@ -15,6 +14,7 @@ use crate::mapped::fill_mapped;
 use crate::overlay::lay_overlay;
 use crate::paired::{fill_paired, is_paired};
 use crate::rgb::fill_rgb;
+use chip_registers::STORE_WORDS;
 use line_colour::entry::WindowEntry;
 use line_formats::Format;
 
@@ -22,28 +22,14 @@ use line_formats::Format;
 fn indexed(format: Format) -> bool
     ensures { (result ≡ true → (format ≡ Format.Index8) ⊎ (format ≡ Format.Index12)) × (result ≡ false → (format ≡ Format.Rgb332) ⊎ (format ≡ Format.Rgb444) ⊎ (format ≡ Format.Rgb555) ⊎ (format ≡ Format.Rgb888)) }
 {
-    match format {
-        Format::Index8 => true,
-        Format::Index12 => true,
-        Format::Rgb332 => false,
-        Format::Rgb444 => false,
-        Format::Rgb555 => false,
-        Format::Rgb888 => false,
-    }
+    matches!(format, Format::Index8 | Format::Index12)
 }
 
 // Whether the samples of a format have 8 bits.
 fn samples_of_8(format: Format) -> bool
     ensures { result ≡ true → (format ≡ Format.Index8) ⊎ (format ≡ Format.Rgb332) }
 {
-    match format {
-        Format::Index8 => true,
-        Format::Rgb332 => true,
-        Format::Index12 => false,
-        Format::Rgb444 => false,
-        Format::Rgb555 => false,
-        Format::Rgb888 => false,
-    }
+    matches!(format, Format::Index8 | Format::Rgb332)
 }
 
 // A run's colours where neither cursor nor overlay shows.
@@ -53,31 +39,21 @@ fn fill_plain(
     store: &[u32; STORE_WORDS],
     normal: &[u8],
     x: usize,
-    count: usize,
     out: &mut [u32],
 )
-    requires { PlainLent depth entry store.now normal.now (x + count) × (count ≤ length out.old) }
-    ensures { FilledPlain depth entry store.now normal.now x count out.old out.new }
+    requires { PlainLent depth entry store.now normal.now (x + length out.old) }
+    ensures { FilledPlain depth entry store.now normal.now x (length out.old) out.old out.new }
 {
-    let format = entry.format;
-    if shortest_looked_up(entry.bypass) <= count {
-        if samples_of_8(format) {
-            fill_looked_up(depth, entry, store, normal, x, count, out);
-            return;
-        }
+    if shortest_looked_up(entry.bypass) <= out.len() && samples_of_8(entry.format) {
+        fill_looked_up(depth, entry, store, normal, x, out.len(), out);
+    } else if PAIRED_RUN <= out.len() && is_paired(entry) {
+        fill_paired(depth, entry, store, normal, x, out.len(), out);
+    } else if indexed(entry.format) {
+        fill_mapped(depth, entry, store, normal, x, out);
+    } else {
+        fill_rgb(depth, entry, normal, x, out.len(), out);
+        correct(store, entry.bypass, out, out.len());
     }
-    if PAIRED_RUN <= count {
-        if is_paired(entry) {
-            fill_paired(depth, entry, store, normal, x, count, out);
-            return;
-        }
-    }
-    if indexed(format) {
-        fill_mapped(depth, entry, store, normal, x, count, out);
-        return;
-    }
-    fill_rgb(depth, entry, normal, x, count, out);
-    correct(store, entry.bypass, out, count);
 }
 
 impl Screen {
@@ -89,16 +65,13 @@ impl Screen {
         normal: &[u8],
         overlay: &[u8],
         x: usize,
-        count: usize,
         out: &mut [u32],
     )
-        requires { PixelsLent self entry store.now normal.now overlay.now (x + count) × (x + count ≤ 65536) × (count ≤ length out.old) }
-        ensures { FilledPixels self entry store.now normal.now overlay.now x count out.old out.new }
+        requires { PixelsLent self entry store.now normal.now overlay.now (x + length out.old) × (x + length out.old ≤ 65536) }
+        ensures { FilledPixels self entry store.now normal.now overlay.now x (length out.old) out.old out.new }
     {
-        let mut i = 0;
-        while i < count {
+        for i in 0..out.len() {
             out[i] = self.colour_of_pixel(entry, store, normal, overlay, x + i);
-            i += 1;
         }
     }
 
@@ -110,15 +83,14 @@ impl Screen {
         normal: &[u8],
         overlay: &[u8],
         x: usize,
-        count: usize,
         out: &mut [u32],
     )
-        requires { PixelsLent self entry store.now normal.now overlay.now (x + count) × (count ≤ length out.old) }
-        ensures { FilledUnder self entry store.now normal.now overlay.now x count out.old out.new }
+        requires { PixelsLent self entry store.now normal.now overlay.now (x + length out.old) }
+        ensures { FilledUnder self entry store.now normal.now overlay.now x (length out.old) out.old out.new }
     {
-        fill_plain(self.depth, entry, store, normal, x, count, out);
+        fill_plain(self.depth, entry, store, normal, x, out);
         if self.overlay_counts(entry) {
-            lay_overlay(entry, store, overlay, x, count, out);
+            lay_overlay(entry, store, overlay, x, out);
         }
     }
 
@@ -130,14 +102,13 @@ impl Screen {
         normal: &[u8],
         overlay: &[u8],
         x: usize,
-        count: usize,
         out: &mut [u32],
     )
-        requires { PixelsLent self entry store.now normal.now overlay.now (x + count) × (x + count ≤ 65536) × (count ≤ length out.old) }
-        ensures { FilledPixels self entry store.now normal.now overlay.now x count out.old out.new }
+        requires { PixelsLent self entry store.now normal.now overlay.now (x + length out.old) × (x + length out.old ≤ 65536) }
+        ensures { FilledPixels self entry store.now normal.now overlay.now x (length out.old) out.old out.new }
     {
-        self.fill_under_cursor(entry, store, normal, overlay, x, count, out);
-        self.lay_cursor(entry, store, x, count, out);
+        self.fill_under_cursor(entry, store, normal, overlay, x, out);
+        self.lay_cursor(entry, store, x, out);
     }
 
     // A run of so many pixels from x on.
@@ -154,10 +125,11 @@ impl Screen {
         requires { PixelsLent self entry store.now normal.now overlay.now (x + count) × (x + count ≤ 65536) × (count ≤ length out.old) }
         ensures { out.new ≡ filled (λ p. value (pixel_view store.now normal.now overlay.now) (colour_of_pixel self entry p)) x out.old count }
     {
+        let run = &mut out[..count];
         if count < LAYERED_RUN {
-            self.fill_pixels(entry, store, normal, overlay, x, count, out);
+            self.fill_pixels(entry, store, normal, overlay, x, run);
         } else {
-            self.fill_layers(entry, store, normal, overlay, x, count, out);
+            self.fill_layers(entry, store, normal, overlay, x, run);
         }
     }
 }

@@ -5,15 +5,15 @@ ghost use Rattle.chip_registers.specs.Blocks.{count};
 ghost use Rattle.chip_registers.specs.Store.{store_length};
 ghost use Rattle.line_pixels.specs.Cells.{map_entry, pixel_word, pixel_view};
 ghost use Rattle.line_pixels.specs.Colour.{cursor_skips_gamma, through_gamma, normal_at, plain_at, overlaid, overlay_counts, overlay_at, under_cursor, cursor_shown, colour_of_pixel};
-ghost use Rattle.line_pixels.specs.Sampling.{sampling_of};
 ghost use Rattle.line_pixels.specs.Inner.{PlainLent, OverlayLent, PixelsLent, OverStore, OverNormal, OverOverlay};
 
 use crate::Screen;
 use crate::sampling::Sampling;
 use crate::store::stored;
-use chip_registers::{Block, GAMMA_MAP_END, GAMMA_MAP_START, Register, STORE_WORDS};
+use chip_registers::{
+    Block, COLOUR_MAP_START, GAMMA_MAP_END, GAMMA_MAP_START, Register, STORE_WORDS,
+};
 use line_colour::entry::{Shown, WindowEntry};
-use line_formats::{Format, Index8, Index12};
 use words::Rgb;
 
 // The map entry of overlay byte 0: the overlay colours stand from it on.
@@ -30,37 +30,29 @@ pub(crate) fn pixel_word(depth: u32, normal: &[u8], x: usize) -> u32
     words::be16(normal, 2 * x)
 }
 
-// A word of the colour map.
+// A word of the colour map, 24 bits of it.
 pub(crate) fn mapped(store: &[u32; STORE_WORDS], entry: u32) -> u32
-    requires { (entry < count Block.ColourMap) }
+    requires { entry < count Block.ColourMap }
     ensures { OverStore store.now (get (map_entry entry)) result }
 {
-    let register = Register {
-        block: Block::ColourMap,
-        word: entry,
-    };
-    stored(store, register)
+    store[COLOUR_MAP_START + entry as usize] % 16777216
 }
 
 // The normal colour of a pixel.
-fn normal_at(depth: u32, sampling: Sampling, store: &[u32; STORE_WORDS], normal: &[u8], x: usize) -> u32
-    requires { PlainLent depth sampling.entry store.now normal.now (x + 1) × (sampling ≡ sampling_of sampling.entry) }
+fn normal_at(
+    depth: u32,
+    sampling: Sampling,
+    store: &[u32; STORE_WORDS],
+    normal: &[u8],
+    x: usize,
+) -> u32
+    requires { PlainLent depth sampling.entry store.now normal.now (x + 1) }
     ensures { OverNormal store.now normal.now (normal_at depth sampling.entry x) result }
 {
-    let entry = sampling.entry;
-    let sample = sampling.sample_at(depth, normal, x);
-    let format = entry.format;
-    match format {
-        Format::Index8 => mapped(store, Index8::map_entry(entry.bank, sample)),
-        Format::Index12 => mapped(store, Index12::map_entry(sample)),
-        Format::Rgb332 | Format::Rgb444 | Format::Rgb555 | Format::Rgb888 => {
-            let shown = entry.shown(sample);
-            match shown {
-                // Not taken: these formats show colours of their own.
-                Shown::MapEntry(number) => mapped(store, number),
-                Shown::Colour(colour) => u32::from(colour),
-            }
-        }
+    let shown = sampling.entry.shown(sampling.sample_at(depth, normal, x));
+    match shown {
+        Shown::MapEntry(number) => mapped(store, number),
+        Shown::Colour(colour) => u32::from(colour),
     }
 }
 
@@ -79,8 +71,14 @@ pub(crate) fn through_gamma(store: &[u32; STORE_WORDS], skips: bool, word: u32) 
 }
 
 // The colour of a pixel where neither cursor nor overlay shows.
-fn plain_at(depth: u32, sampling: Sampling, store: &[u32; STORE_WORDS], normal: &[u8], x: usize) -> u32
-    requires { PlainLent depth sampling.entry store.now normal.now (x + 1) × (sampling ≡ sampling_of sampling.entry) }
+fn plain_at(
+    depth: u32,
+    sampling: Sampling,
+    store: &[u32; STORE_WORDS],
+    normal: &[u8],
+    x: usize,
+) -> u32
+    requires { PlainLent depth sampling.entry store.now normal.now (x + 1) }
     ensures { OverNormal store.now normal.now (plain_at depth sampling.entry x) result }
 {
     let colour = normal_at(depth, sampling, store, normal, x);
@@ -88,11 +86,14 @@ fn plain_at(depth: u32, sampling: Sampling, store: &[u32; STORE_WORDS], normal: 
 }
 
 // The colour of an overlay byte.
-pub(crate) fn overlay_shown(entry: WindowEntry, store: &[u32; STORE_WORDS], byte: u32) -> u32
-    requires { (byte < 256) }
+pub(crate) fn overlay_shown(entry: WindowEntry, store: &[u32; STORE_WORDS], byte: u8) -> u32
     ensures { OverStore store.now (overlaid entry byte) result }
 {
-    through_gamma(store, entry.bypass, mapped(store, OVERLAY_COLOURS + byte))
+    through_gamma(
+        store,
+        entry.bypass,
+        mapped(store, OVERLAY_COLOURS + u32::from(byte)),
+    )
 }
 
 impl Screen {
@@ -100,16 +101,17 @@ impl Screen {
     pub(crate) fn overlay_counts(self, entry: WindowEntry) -> bool
         ensures { result ≡ overlay_counts self entry }
     {
-        if self.overlay { entry.overlay } else { false }
+        self.overlay && entry.overlay
     }
 
     // The overlay byte of a pixel, 0 where overlay doesn't count.
-    fn overlay_at(self, entry: WindowEntry, overlay: &[u8], x: usize) -> u32
+    #[tactic(auto, unfolding(crate::specs::Colour::overlay_at))]
+    fn overlay_at(self, entry: WindowEntry, overlay: &[u8], x: usize) -> u8
         requires { OverlayLent self entry overlay.now (x + 1) }
-        ensures { OverOverlay overlay.now (overlay_at self entry x) result × (result < 256) }
+        ensures { OverOverlay overlay.now (overlay_at self entry x) result }
     {
         if self.overlay_counts(entry) {
-            return overlay[x] as u32;
+            return overlay[x];
         }
         0
     }
@@ -128,7 +130,7 @@ impl Screen {
     {
         let byte = self.overlay_at(entry, overlay, x);
         if byte == 0 {
-            return plain_at(self.depth, Sampling::of(entry), store, normal, x);
+            return plain_at(self.depth, Sampling::from(entry), store, normal, x);
         }
         overlay_shown(entry, store, byte)
     }
@@ -141,7 +143,12 @@ impl Screen {
     }
 
     // A cursor colour over a window entry.
-    pub(crate) fn cursor_shown(self, entry: WindowEntry, store: &[u32; STORE_WORDS], number: u32) -> u32
+    pub(crate) fn cursor_shown(
+        self,
+        entry: WindowEntry,
+        store: &[u32; STORE_WORDS],
+        number: u32,
+    ) -> u32
         requires { (1 ≤ number) × (number < 4) }
         ensures { OverStore store.now (cursor_shown self entry number) result }
     {

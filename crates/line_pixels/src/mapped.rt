@@ -4,35 +4,24 @@ ghost use Rattle.rules.specs.Rule.{get};
 ghost use Rattle.chip_registers.specs.Blocks.{count};
 ghost use Rattle.chip_registers.specs.Store.{store_length};
 ghost use Rattle.line_pixels.specs.Cells.{map_entry};
-ghost use Rattle.line_pixels.specs.Sampling.{sampling_of};
 ghost use Rattle.line_pixels.specs.Inner.{PlainLent, OverStore, CountedFrom, map_colour, FilledPlain};
 
 use crate::index_12::{fill_bypassed, fill_corrected, is_index_12};
 use crate::layers::{mapped, through_gamma};
 use crate::lengths::SPLIT_WORDS;
 use crate::sampling::Sampling;
-use chip_registers::{Block, COLOUR_MAP_START, STORE_WORDS};
+use chip_registers::{Block, STORE_WORDS};
 use line_colour::entry::WindowEntry;
 use line_formats::{Format, Index8};
 
 // The 256 colours of the map from entry `first` on.
 pub(crate) fn map_colours(store: &[u32; STORE_WORDS], first: u32, colours: &mut [u32; 256])
-    requires { (first + 256 ≤ count Block.ColourMap) × (length colours.old ≡ 256) }
-    ensures { (length colours.new ≡ 256) × ((k : ℕ) → k < 256 → OverStore store.now (get (map_entry (first + k))) (get_or colours.new k 0)) }
+    requires { first + 256 ≤ count Block.ColourMap }
+    ensures { (k : ℕ) → k < 256 → OverStore store.now (get (map_entry (first + k))) (get_or colours.new k 0) }
 {
-    let mut k = 0;
-    while k < 256 {
+    for k in 0..256 {
         colours[k] = mapped(store, first + k as u32);
-        k += 1;
     }
-}
-
-// The colour of a map entry: what `mapped` answers, by its place in the store.
-fn entry_colour(store: &[u32; STORE_WORDS], number: u32) -> u32
-    requires { (number < count Block.ColourMap) }
-    ensures { result ≡ map_colour store.now number }
-{
-    store[COLOUR_MAP_START + number as usize] % 16777216
 }
 
 // The map entry from which the indices under an entry are counted.
@@ -40,8 +29,7 @@ fn first_entry(entry: WindowEntry) -> u32
     requires { (entry.format ≡ Format.Index8) ⊎ (entry.format ≡ Format.Index12) }
     ensures { CountedFrom entry result }
 {
-    let format = entry.format;
-    match format {
+    match entry.format {
         Format::Index12 => 0,
         // An 8-bit index is all that is left.
         Format::Index8 | Format::Rgb332 | Format::Rgb444 | Format::Rgb555 | Format::Rgb888 => {
@@ -58,18 +46,15 @@ fn fill_few(
     store: &[u32; STORE_WORDS],
     normal: &[u8],
     x: usize,
-    count: usize,
     out: &mut [u32],
 )
-    requires { PlainLent depth sampling.entry store.now normal.now (x + count) × (sampling ≡ sampling_of sampling.entry) × CountedFrom sampling.entry first × (count ≤ length out.old) }
-    ensures { FilledPlain depth sampling.entry store.now normal.now x count out.old out.new }
+    requires { PlainLent depth sampling.entry store.now normal.now (x + length out.old) × CountedFrom sampling.entry first }
+    ensures { FilledPlain depth sampling.entry store.now normal.now x (length out.old) out.old out.new }
 {
-    let mut i = 0;
-    while i < count {
+    for i in 0..out.len() {
         let index = sampling.sample_at(depth, normal, x + i);
-        let colour = entry_colour(store, first + index);
+        let colour = mapped(store, first + index);
         out[i] = through_gamma(store, sampling.entry.bypass, colour);
-        i += 1;
     }
 }
 
@@ -80,32 +65,25 @@ pub(crate) fn fill_mapped(
     store: &[u32; STORE_WORDS],
     normal: &[u8],
     x: usize,
-    count: usize,
     out: &mut [u32],
 )
-    requires { PlainLent depth entry store.now normal.now (x + count) × ((entry.format ≡ Format.Index8) ⊎ (entry.format ≡ Format.Index12)) × (count ≤ length out.old) }
-    ensures { FilledPlain depth entry store.now normal.now x count out.old out.new }
+    requires { PlainLent depth entry store.now normal.now (x + length out.old) × ((entry.format ≡ Format.Index8) ⊎ (entry.format ≡ Format.Index12)) }
+    ensures { FilledPlain depth entry store.now normal.now x (length out.old) out.old out.new }
 {
-    let format = entry.format;
-    if is_index_12(format) {
-        if entry.bypass {
-            fill_bypassed(depth, entry, store, normal, x, count, out);
-            return;
-        }
-        if SPLIT_WORDS <= count {
-            fill_corrected(depth, entry, store, normal, x, count, out);
-            return;
-        }
+    let whole = is_index_12(entry.format);
+    if whole && entry.bypass {
+        fill_bypassed(depth, entry, store, normal, x, out.len(), out);
+    } else if whole && SPLIT_WORDS <= out.len() {
+        fill_corrected(depth, entry, store, normal, x, out.len(), out);
+    } else {
+        fill_few(
+            depth,
+            Sampling::from(entry),
+            first_entry(entry),
+            store,
+            normal,
+            x,
+            out,
+        );
     }
-    let first = first_entry(entry);
-    fill_few(
-        depth,
-        Sampling::of(entry),
-        first,
-        store,
-        normal,
-        x,
-        count,
-        out,
-    );
 }

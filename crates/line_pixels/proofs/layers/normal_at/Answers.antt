@@ -1,0 +1,29 @@
+-- The entry that a sample shows is in the map; what it shows is what the pixel's sample shows.
+use Rattle.std.proofs.Common.{sym, ap, ◌∙◌}
+use Rattle.line_colour.specs.Shown.{shown_of}
+use Rattle.line_colour.proofs.Defined.{map_entry_below}
+use Rattle.line_pixels.specs.Cells.{pixel_view}
+use Rattle.line_pixels.proofs.Rows.{said_says}
+use Rattle.line_pixels.proofs.LayersCases.{normal_of_map, normal_of_colour}
+use Rattle.line_pixels.proofs.layers.normal_at.Goals as goal
+
+pub mapped-requires : goal.mapped-requires
+mapped-requires c =
+    let a = c.args in
+    map_entry_below a.depth a.sampling.entry c.sample_at.result (said_says a.depth a.sampling.entry c.requires.said) (sym c.in-MapEntry.ensures)
+
+pub returns-in-MapEntry : goal.returns-in-MapEntry
+returns-in-MapEntry c =
+    let a = c.args in
+    λ overlay.
+    normal_of_map (pixel_view a.store.now a.normal.now overlay) a.depth a.sampling.entry a.x
+    (ap (shown_of a.sampling.entry) (sym c.sample_at.ensures.0) ∙ sym c.in-MapEntry.ensures)
+    (c.mapped.ensures a.normal.now overlay)
+
+pub returns-in-Colour : goal.returns-in-Colour
+returns-in-Colour c =
+    let a = c.args in
+    λ overlay.
+    normal_of_colour (pixel_view a.store.now a.normal.now overlay) a.depth a.sampling.entry a.x
+    (ap (shown_of a.sampling.entry) (sym c.sample_at.ensures.0) ∙ sym c.in-Colour.ensures)
+    c.from.ensures.0
