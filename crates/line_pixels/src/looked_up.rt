@@ -6,12 +6,12 @@ ghost use Rattle.line_colour.specs.Shown.{shown_of};
 ghost use Rattle.line_pixels.specs.Colour.{SaidAt, shown_colour};
 ghost use Rattle.line_pixels.specs.Inner.{PlainLent, OverStore, FilledPlain};
 
-use chip_registers::STORE_WORDS;
 use crate::bytes::wide;
 use crate::correction::correct;
 use crate::fours::put_four;
 use crate::mapped::map_colours;
 use crate::rgb_332::colours_332;
+use chip_registers::STORE_WORDS;
 use line_colour::entry::WindowEntry;
 use line_formats::{Format, Index8};
 
@@ -57,7 +57,12 @@ fn look_up(
 }
 
 // The normal colours of all samples under an entry of 8-bit samples.
-fn normal_colours(depth: u32, entry: WindowEntry, store: &[u32; STORE_WORDS], colours: &mut [u32; 256])
+fn normal_colours(
+    depth: u32,
+    entry: WindowEntry,
+    store: &[u32; STORE_WORDS],
+    colours: &mut [u32; 256],
+)
     requires { SaidAt depth entry × (length colours.old ≡ 256) × ((entry.format ≡ Format.Index8) ⊎ (entry.format ≡ Format.Rgb332)) }
     ensures { (length colours.new ≡ 256) × ((sample : ℕ) → sample < 256 → OverStore store.now (shown_colour (shown_of entry sample)) (get_or colours.new sample 0)) }
 {

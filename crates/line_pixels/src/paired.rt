@@ -34,7 +34,13 @@ fn split_values(
 }
 
 // The final words of all pairs of red and green, and those of all blues.
-fn make_words(store: &[u32; STORE_WORDS], values: usize, quarters: usize, pairs: &mut [u32], blues: &mut [u32])
+fn make_words(
+    store: &[u32; STORE_WORDS],
+    values: usize,
+    quarters: usize,
+    pairs: &mut [u32],
+    blues: &mut [u32],
+)
     requires { (1 ≤ values) × (values ≤ 32) × ((v : ℕ) → v < values → quarters * v / 4 < 256) × (length pairs.old ≡ values * values) × (length blues.old ≡ values) }
     ensures { PairedBy store.now values quarters pairs.new blues.new }
 {
