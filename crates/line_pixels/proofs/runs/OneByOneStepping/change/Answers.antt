@@ -1,6 +1,6 @@
 use Rattle.std.proofs.Common.{get_or, arith, zero-add}
 use Rattle.rules.proofs.Change.{change_start, change_here}
-use Rattle.line_pixels.proofs.runs.change_each.Goals as goal
+use Rattle.line_pixels.proofs.runs.OneByOneStepping.change.Goals as goal
 
 pub loop-i-init : goal.loop-i-init
 loop-i-init g c = λ change is. change_start (omega arith)

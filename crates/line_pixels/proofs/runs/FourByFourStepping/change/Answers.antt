@@ -1,6 +1,6 @@
 use Rattle.std.proofs.Common.{◌+◌, ◌*◌, ◌≡◌, get_or, arith, zero-add}
 use Rattle.rules.proofs.Change.{change_start, change_here, change_four_here}
-use Rattle.line_pixels.proofs.runs.change_fours.Goals as goal
+use Rattle.line_pixels.proofs.runs.FourByFourStepping.change.Goals as goal
 
 pub loop-turn-init : goal.loop-turn-init
 loop-turn-init g c = λ change is. change_start (omega arith)

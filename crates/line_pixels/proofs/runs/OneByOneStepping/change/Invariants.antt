@@ -1,7 +1,7 @@
 use Rattle.std.proofs.Common.{ℕ, length}
 use Rattle.rules.proofs.Change.{Changing}
 use Rattle.line_pixels.specs.ByClosure.{IsChange}
-use Rattle.line_pixels.proofs.runs.change_each.Given as goal
+use Rattle.line_pixels.proofs.runs.OneByOneStepping.change.Given as goal
 
 -- whatever change says what the closure answers, the words before i have it
 abbrev pub invariant-loop-i : goal.invariant-loop-i

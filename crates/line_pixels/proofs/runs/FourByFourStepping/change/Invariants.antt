@@ -1,7 +1,7 @@
 use Rattle.std.proofs.Common.{ℕ, ◌*◌, length}
 use Rattle.rules.proofs.Change.{Changing}
 use Rattle.line_pixels.specs.ByClosure.{IsChange}
-use Rattle.line_pixels.proofs.runs.change_fours.Given as goal
+use Rattle.line_pixels.proofs.runs.FourByFourStepping.change.Given as goal
 
 -- whatever change says what the closure answers, the words before the turn's four have it
 abbrev pub invariant-loop-turn : goal.invariant-loop-turn

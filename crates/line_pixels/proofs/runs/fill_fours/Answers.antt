@@ -1,7 +1,0 @@
-use Rattle.std.proofs.Common.{rules}
-use Rattle.line_pixels.proofs.FilledRuns.{all_filled}
-use Rattle.line_pixels.proofs.runs.fill_fours.Goals as goal
-
-pub returns : goal.returns
-returns g c =
-    λ shows is. all_filled shows c.args.words.now (c.change_fours.ensures (λ i _. shows i) (λ i word r below post. is i r below (search rules)))
