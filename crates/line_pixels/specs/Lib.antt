@@ -1,3 +1,4 @@
+pub mod ByClosure
 pub mod Cells
 pub mod Cursor
 pub mod Colour

@@ -15,6 +15,7 @@ mod overlay;
 mod paired;
 mod rgb;
 mod rgb_332;
+mod runs;
 mod sampling;
 mod store;
 mod sums;
