@@ -82,10 +82,6 @@ abbrev pub FilledPixels : Screen → WindowEntry → List ℕ → List ℕ → L
 FilledPixels screen entry store normal overlay x count before after =
     after ≡ filled (λ p. value (pixel_view store normal overlay) (colour_of_pixel screen entry p)) x before count
 
--- the colour of map entry `number`
-abbrev pub map_colour : List ℕ → ℕ → ℕ
-map_colour store number = get_or store (32 + number) 0 % 16777216
-
 -- the first `count` words gone through gamma, unless they bypass it, whatever the rows hold
 abbrev pub Corrected : List ℕ → Bool → List ℕ → ℕ → List ℕ → Type 0
 Corrected store bypass before count after =

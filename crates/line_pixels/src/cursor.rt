@@ -118,7 +118,8 @@ impl Screen {
         requires { x + length out.old ≤ 65536 }
         ensures { CursorLaid self entry store.now x out.old (length out.old) out.new }
     {
-        for i in self.cursor_span(x, out.len()) {
+        let span = self.cursor_span(x, out.len());
+        for i in span.start..span.end {
             out[i] = self.cursor_or(entry, store, x + i, out[i]);
         }
     }

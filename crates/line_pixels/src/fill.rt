@@ -14,6 +14,7 @@ use crate::mapped::fill_mapped;
 use crate::overlay::lay_overlay;
 use crate::paired::{fill_paired, is_paired};
 use crate::rgb::fill_rgb;
+use crate::runs::{OneByOne, Stepping};
 use chip_registers::STORE_WORDS;
 use line_colour::entry::WindowEntry;
 use line_formats::Format;
@@ -70,9 +71,10 @@ impl Screen {
         requires { PixelsLent self entry store.now normal.now overlay.now (x + length out.old) × (x + length out.old ≤ 65536) }
         ensures { FilledPixels self entry store.now normal.now overlay.now x (length out.old) out.old out.new }
     {
-        for i in 0..out.len() {
-            out[i] = self.colour_of_pixel(entry, store, normal, overlay, x + i);
-        }
+        OneByOne::fill(
+            |i| self.colour_of_pixel(entry, store, normal, overlay, x + i),
+            out,
+        );
     }
 
     // A run without the cursor: its plain colours, and overlay over them where it counts.

@@ -1,9 +1,9 @@
 // The layers: normal, overlay and cursor, and gamma.
 ghost use Rattle.std.specs.Prelude.{◌+◌, ◌*◌, ◌/◌, ◌≤◌, ◌<◌, ◌≡◌, ◌⊎◌, length};
-ghost use Rattle.rules.specs.Rule.{get, value};
+ghost use Rattle.rules.specs.Rule.{value};
 ghost use Rattle.chip_registers.specs.Blocks.{count};
-ghost use Rattle.chip_registers.specs.Store.{store_length};
-ghost use Rattle.line_pixels.specs.Cells.{map_entry, pixel_word, pixel_view};
+ghost use Rattle.chip_registers.specs.Store.{stored};
+ghost use Rattle.line_pixels.specs.Cells.{pixel_word, pixel_view};
 ghost use Rattle.line_pixels.specs.Colour.{cursor_skips_gamma, through_gamma, normal_at, plain_at, overlaid, overlay_counts, overlay_at, under_cursor, cursor_shown, colour_of_pixel};
 ghost use Rattle.line_pixels.specs.Inner.{PlainLent, OverlayLent, PixelsLent, OverStore, OverNormal, OverOverlay};
 
@@ -33,7 +33,7 @@ pub(crate) fn pixel_word(depth: u32, normal: &[u8], x: usize) -> u32
 // A word of the colour map, 24 bits of it.
 pub(crate) fn mapped(store: &[u32; STORE_WORDS], entry: u32) -> u32
     requires { entry < count Block.ColourMap }
-    ensures { OverStore store.now (get (map_entry entry)) result }
+    ensures { result ≡ stored store.now (record { block = Block.ColourMap; word = entry }) }
 {
     store[COLOUR_MAP_START + entry as usize] % 16777216
 }

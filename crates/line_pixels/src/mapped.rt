@@ -4,11 +4,13 @@ ghost use Rattle.rules.specs.Rule.{get};
 ghost use Rattle.chip_registers.specs.Blocks.{count};
 ghost use Rattle.chip_registers.specs.Store.{store_length};
 ghost use Rattle.line_pixels.specs.Cells.{map_entry};
-ghost use Rattle.line_pixels.specs.Inner.{PlainLent, OverStore, CountedFrom, map_colour, FilledPlain};
+ghost use Rattle.line_pixels.specs.Colour.{plain_at};
+ghost use Rattle.line_pixels.specs.Inner.{PlainLent, OverStore, OverNormal, CountedFrom, FilledPlain};
 
 use crate::index_12::{fill_bypassed, fill_corrected, is_index_12};
 use crate::layers::{mapped, through_gamma};
 use crate::lengths::SPLIT_WORDS;
+use crate::runs::{OneByOne, Stepping};
 use crate::sampling::Sampling;
 use chip_registers::{Block, STORE_WORDS};
 use line_colour::entry::WindowEntry;
@@ -19,9 +21,7 @@ pub(crate) fn map_colours(store: &[u32; STORE_WORDS], first: u32, colours: &mut 
     requires { first + 256 ≤ count Block.ColourMap }
     ensures { (k : ℕ) → k < 256 → OverStore store.now (get (map_entry (first + k))) (get_or colours.new k 0) }
 {
-    for k in 0..256 {
-        colours[k] = mapped(store, first + k as u32);
-    }
+    OneByOne::fill(|k| mapped(store, first + k as u32), colours);
 }
 
 // The map entry from which the indices under an entry are counted.
@@ -38,6 +38,22 @@ fn first_entry(entry: WindowEntry) -> u32
     }
 }
 
+// The plain colour of a pixel whose index is counted from map entry `first`.
+fn indexed_at(
+    depth: u32,
+    sampling: Sampling,
+    first: u32,
+    store: &[u32; STORE_WORDS],
+    normal: &[u8],
+    x: usize,
+) -> u32
+    requires { PlainLent depth sampling.entry store.now normal.now (x + 1) × CountedFrom sampling.entry first }
+    ensures { OverNormal store.now normal.now (plain_at depth sampling.entry x) result }
+{
+    let index = sampling.sample_at(depth, normal, x);
+    through_gamma(store, sampling.entry.bypass, mapped(store, first + index))
+}
+
 // A plain run of a few indices, counted from map entry `first`, pixel by pixel.
 fn fill_few(
     depth: u32,
@@ -51,11 +67,10 @@ fn fill_few(
     requires { PlainLent depth sampling.entry store.now normal.now (x + length out.old) × CountedFrom sampling.entry first }
     ensures { FilledPlain depth sampling.entry store.now normal.now x (length out.old) out.old out.new }
 {
-    for i in 0..out.len() {
-        let index = sampling.sample_at(depth, normal, x + i);
-        let colour = mapped(store, first + index);
-        out[i] = through_gamma(store, sampling.entry.bypass, colour);
-    }
+    OneByOne::fill(
+        |i| indexed_at(depth, sampling, first, store, normal, x + i),
+        out,
+    );
 }
 
 // A plain run of indices.

@@ -8,6 +8,7 @@ use crate::correction::correct;
 use crate::layers::{OVERLAY_COLOURS, overlay_shown};
 use crate::lengths::OVERLAY_RUN;
 use crate::mapped::map_colours;
+use crate::runs::{FourByFour, OneByOne, Stepping};
 use chip_registers::STORE_WORDS;
 use line_colour::entry::WindowEntry;
 
@@ -32,9 +33,10 @@ fn lay_short(
     requires { x + length out.old ≤ length overlay.now }
     ensures { Overlaid entry store.now overlay.now x out.old (length out.old) out.new }
 {
-    for i in 0..out.len() {
-        out[i] = overlay_or(entry, store, overlay[x + i], out[i]);
-    }
+    OneByOne::change(
+        |i, under| overlay_or(entry, store, overlay[x + i], under),
+        out,
+    );
 }
 
 // The colour of a byte, or what is under it where the byte is 0.
@@ -50,9 +52,7 @@ fn lay_by(colours: &[u32; 256], overlay: &[u8], x: usize, out: &mut [u32])
     requires { x + length out.old ≤ length overlay.now }
     ensures { out.new ≡ changed (λ p under. overlaid_by colours.now (get_or overlay.now p 0) under) x out.old (length out.old) }
 {
-    for i in 0..out.len() {
-        out[i] = over(colours, overlay[x + i], out[i]);
-    }
+    FourByFour::change(|i, under| over(colours, overlay[x + i], under), out);
 }
 
 // Overlay over a long run.

@@ -18,7 +18,7 @@ returns-in-MapEntry c =
     λ overlay.
     normal_of_map (pixel_view a.store.now a.normal.now overlay) a.depth a.sampling.entry a.x
     (ap (shown_of a.sampling.entry) (sym c.sample_at.ensures.0) ∙ sym c.in-MapEntry.ensures)
-    (c.mapped.ensures a.normal.now overlay)
+    c.mapped.ensures
 
 pub returns-in-Colour : goal.returns-in-Colour
 returns-in-Colour c =
