@@ -4,3 +4,4 @@ pub mod Cursor
 pub mod Colour
 pub mod Inner
 pub mod Spans
+pub mod Source

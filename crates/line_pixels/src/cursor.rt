@@ -3,13 +3,15 @@ ghost use Rattle.std.specs.Prelude.{◌+◌, ◌≤◌, ◌<◌, ◌≡◌, leng
 ghost use Rattle.chip_registers.specs.Store.{store_length};
 ghost use Rattle.line_pixels.specs.Cells.{glyph_cell};
 ghost use Rattle.line_pixels.specs.Cursor.{cursor_at};
-ghost use Rattle.line_pixels.specs.Inner.{OverStore, Among, cursor_or, CursorLaid};
+ghost use Rattle.line_pixels.specs.Inner.{OverStore, Among, cursor_or};
+ghost use Rattle.line_pixels.specs.Source.{view_of, Laid};
+ghost use Rattle.rules.specs.Rule.{value};
 ghost use Rattle.line_pixels.specs.Spans.{CommonSpan, NoneBeside};
 
 use crate::Screen;
+use crate::source::Source;
 use crate::store::stored;
 use chip_registers::{Block, Register, STORE_WORDS};
-use line_colour::entry::WindowEntry;
 use std::ops::Range;
 
 // The columns and the rows of the glyph.
@@ -95,32 +97,28 @@ impl Screen {
         }
         common_span(x, count, self.cx.saturating_sub(GLYPH_LAST), self.cx)
     }
+}
 
+impl Source<'_> {
     // The cursor colour of a pixel, or what is under it where none shows.
-    fn cursor_or(self, entry: WindowEntry, store: &[u32; STORE_WORDS], x: usize, under: u32) -> u32
-        ensures { OverStore store.now (cursor_or self entry x under) result }
+    fn cursor_or(&self, x: usize, under: u32) -> u32
+        ensures { result ≡ value (view_of self.now) (cursor_or self.now.screen self.now.entry x under) }
     {
-        let number = self.cursor_at(store, x);
+        let number = self.screen.cursor_at(self.store, x);
         if number == 0 {
             return under;
         }
-        self.cursor_shown(entry, store, number)
+        self.cursor_shown(number)
     }
 
     // The cursor over a run that is drawn already: only pixels at which it can show are looked at.
-    pub(crate) fn lay_cursor(
-        self,
-        entry: WindowEntry,
-        store: &[u32; STORE_WORDS],
-        x: usize,
-        out: &mut [u32],
-    )
+    pub(crate) fn lay_cursor(&self, x: usize, out: &mut [u32])
         requires { x + length out.old ≤ 65536 }
-        ensures { CursorLaid self entry store.now x out.old (length out.old) out.new }
+        ensures { Laid self.now (cursor_or self.now.screen self.now.entry) x out.old out.new }
     {
-        let span = self.cursor_span(x, out.len());
+        let span = self.screen.cursor_span(x, out.len());
         for i in span.start..span.end {
-            out[i] = self.cursor_or(entry, store, x + i, out[i]);
+            out[i] = self.cursor_or(x + i, out[i]);
         }
     }
 }

@@ -1,17 +1,19 @@
 // Colours of the map: those of 256 entries, and runs of indices.
 ghost use Rattle.std.specs.Prelude.{ℕ, ◌+◌, ◌≤◌, ◌<◌, ◌≡◌, ◌⊎◌, length, get_or};
-ghost use Rattle.rules.specs.Rule.{get};
+ghost use Rattle.rules.specs.Rule.{get, value};
 ghost use Rattle.chip_registers.specs.Blocks.{count};
 ghost use Rattle.chip_registers.specs.Store.{store_length};
 ghost use Rattle.line_pixels.specs.Cells.{map_entry};
 ghost use Rattle.line_pixels.specs.Colour.{plain_at};
-ghost use Rattle.line_pixels.specs.Inner.{PlainLent, OverStore, OverNormal, CountedFrom, FilledPlain};
+ghost use Rattle.line_pixels.specs.Inner.{OverStore, CountedFrom};
+ghost use Rattle.line_pixels.specs.Source.{view_of, PlainReaches, Drawn};
+ghost use Rattle.line_formats.specs.Table.{widths_of};
 
 use crate::index_12::{fill_bypassed, fill_corrected, is_index_12};
 use crate::layers::{mapped, through_gamma};
 use crate::lengths::SPLIT_WORDS;
 use crate::runs::{OneByOne, Stepping};
-use crate::sampling::Sampling;
+use crate::source::Source;
 use chip_registers::{Block, STORE_WORDS};
 use line_colour::entry::WindowEntry;
 use line_formats::{Format, Index8};
@@ -38,67 +40,58 @@ fn first_entry(entry: WindowEntry) -> u32
     }
 }
 
-// The plain colour of a pixel whose index is counted from map entry `first`.
-fn indexed_at(
-    depth: u32,
-    sampling: Sampling,
-    first: u32,
-    store: &[u32; STORE_WORDS],
-    normal: &[u8],
-    x: usize,
-) -> u32
-    requires { PlainLent depth sampling.entry store.now normal.now (x + 1) × CountedFrom sampling.entry first }
-    ensures { OverNormal store.now normal.now (plain_at depth sampling.entry x) result }
-{
-    let index = sampling.sample_at(depth, normal, x);
-    through_gamma(store, sampling.entry.bypass, mapped(store, first + index))
-}
+impl Source<'_> {
+    // The plain colour of a pixel whose index has so many bits and is counted from map entry `first`.
+    fn indexed_at(&self, bits: u32, first: u32, x: usize) -> u32
+        requires { PlainReaches self.now (x + 1) × (bits ≡ (widths_of self.now.entry.format).bits) × CountedFrom self.now.entry first }
+        ensures { result ≡ value (view_of self.now) (plain_at self.now.screen.depth self.now.entry x) }
+    {
+        let index = self.sample_at(bits, x);
+        through_gamma(
+            self.store,
+            self.entry.bypass,
+            mapped(self.store, first + index),
+        )
+    }
 
-// A plain run of a few indices, counted from map entry `first`, pixel by pixel.
-fn fill_few(
-    depth: u32,
-    sampling: Sampling,
-    first: u32,
-    store: &[u32; STORE_WORDS],
-    normal: &[u8],
-    x: usize,
-    out: &mut [u32],
-)
-    requires { PlainLent depth sampling.entry store.now normal.now (x + length out.old) × CountedFrom sampling.entry first }
-    ensures { FilledPlain depth sampling.entry store.now normal.now x (length out.old) out.old out.new }
-{
-    OneByOne::fill(
-        |i| indexed_at(depth, sampling, first, store, normal, x + i),
-        out,
-    );
-}
+    // A plain run of a few indices, pixel by pixel. How many bits they have and from where they are counted is looked up once.
+    fn fill_few(&self, x: usize, out: &mut [u32])
+        requires { PlainReaches self.now (x + length out.old) × ((self.now.entry.format ≡ Format.Index8) ⊎ (self.now.entry.format ≡ Format.Index12)) }
+        ensures { Drawn self.now (plain_at self.now.screen.depth self.now.entry) x out.old out.new }
+    {
+        let bits = self.entry.format.widths().bits;
+        let first = first_entry(self.entry);
+        OneByOne::fill(|i| self.indexed_at(bits, first, x + i), out);
+    }
 
-// A plain run of indices.
-pub(crate) fn fill_mapped(
-    depth: u32,
-    entry: WindowEntry,
-    store: &[u32; STORE_WORDS],
-    normal: &[u8],
-    x: usize,
-    out: &mut [u32],
-)
-    requires { PlainLent depth entry store.now normal.now (x + length out.old) × ((entry.format ≡ Format.Index8) ⊎ (entry.format ≡ Format.Index12)) }
-    ensures { FilledPlain depth entry store.now normal.now x (length out.old) out.old out.new }
-{
-    let whole = is_index_12(entry.format);
-    if whole && entry.bypass {
-        fill_bypassed(depth, entry, store, normal, x, out.len(), out);
-    } else if whole && SPLIT_WORDS <= out.len() {
-        fill_corrected(depth, entry, store, normal, x, out.len(), out);
-    } else {
-        fill_few(
-            depth,
-            Sampling::from(entry),
-            first_entry(entry),
-            store,
-            normal,
-            x,
-            out,
-        );
+    // A plain run of indices.
+    pub(crate) fn fill_mapped(&self, x: usize, out: &mut [u32])
+        requires { PlainReaches self.now (x + length out.old) × ((self.now.entry.format ≡ Format.Index8) ⊎ (self.now.entry.format ≡ Format.Index12)) }
+        ensures { Drawn self.now (plain_at self.now.screen.depth self.now.entry) x out.old out.new }
+    {
+        let index_12 = is_index_12(self.entry.format);
+        if index_12 && self.entry.bypass {
+            fill_bypassed(
+                self.screen.depth,
+                self.entry,
+                self.store,
+                self.normal,
+                x,
+                out.len(),
+                out,
+            );
+        } else if index_12 && SPLIT_WORDS <= out.len() {
+            fill_corrected(
+                self.screen.depth,
+                self.entry,
+                self.store,
+                self.normal,
+                x,
+                out.len(),
+                out,
+            );
+        } else {
+            self.fill_few(x, out);
+        }
     }
 }
