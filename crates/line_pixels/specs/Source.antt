@@ -1,9 +1,10 @@
 -- What the functions inside say of a source: of the memory that is lent for a run, and of what is drawn from it.
-use Rattle.std.specs.Prelude.{ℕ, ◌≡◌, List, length}
+use Rattle.std.specs.Prelude.{ℕ, ◌≡◌, List, length, get_or}
 use Rattle.rules.specs.Rule.{Rule, value}
 use Rattle.rules.specs.Lists.{filled, changed}
 use Rattle.line_pixels.specs.Cells.{PixelCell, pixel_view}
-use Rattle.line_pixels.specs.Inner.{PlainLent, PixelsLent}
+use Rattle.line_pixels.specs.Colour.{plain_at}
+use Rattle.line_pixels.specs.Inner.{PlainLent, PixelsLent, overlaid_or}
 use Rattle.line_pixels.specs.declared.source.Source.{Source}
 
 -- what the cells hold in the memory that is lent
@@ -25,3 +26,11 @@ Drawn source rule x before after = after ≡ filled (λ p. value (view_of source
 -- each word of a run from pixel x on is changed to what a rule says of its pixel and of the word
 abbrev pub Laid : Source → (ℕ → ℕ → Rule ⊥ PixelCell ℕ) → ℕ → List ℕ → List ℕ → Type 0
 Laid source rule x before after = after ≡ changed (λ p under. value (view_of source) (rule p under)) x before (length before)
+
+-- a run from pixel x on is filled with plain colours
+abbrev pub PlainDrawn : Source → ℕ → List ℕ → List ℕ → Type 0
+PlainDrawn source = Drawn source (plain_at source.screen.depth source.entry)
+
+-- overlay is laid over a run from pixel x on
+abbrev pub OverlayLaid : Source → ℕ → List ℕ → List ℕ → Type 0
+OverlayLaid source = Laid source (λ p under. overlaid_or source.entry (get_or source.overlay.now p 0) under)

@@ -5,7 +5,7 @@ ghost use Rattle.rules.specs.Lists.{filled};
 ghost use Rattle.line_pixels.specs.Cells.{pixel_view};
 ghost use Rattle.line_pixels.specs.Colour.{plain_at, under_cursor, colour_of_pixel};
 ghost use Rattle.line_pixels.specs.Inner.{PixelsLent};
-ghost use Rattle.line_pixels.specs.Source.{PlainReaches, PixelsReach, Drawn};
+ghost use Rattle.line_pixels.specs.Source.{PlainReaches, PixelsReach, Drawn, PlainDrawn};
 
 use crate::Screen;
 use crate::correction::correct;
@@ -37,7 +37,7 @@ impl Source<'_> {
     // A run's colours where neither cursor nor overlay shows.
     fn fill_plain(&self, x: usize, out: &mut [u32])
         requires { PlainReaches self.now (x + length out.old) }
-        ensures { Drawn self.now (plain_at self.now.screen.depth self.now.entry) x out.old out.new }
+        ensures { PlainDrawn self.now x out.old out.new }
     {
         let depth = self.screen.depth;
         let entry = self.entry;

@@ -6,7 +6,7 @@ ghost use Rattle.chip_registers.specs.Store.{store_length};
 ghost use Rattle.line_pixels.specs.Cells.{map_entry};
 ghost use Rattle.line_pixels.specs.Colour.{plain_at};
 ghost use Rattle.line_pixels.specs.Inner.{OverStore, CountedFrom};
-ghost use Rattle.line_pixels.specs.Source.{view_of, PlainReaches, Drawn};
+ghost use Rattle.line_pixels.specs.Source.{view_of, PlainReaches, PlainDrawn};
 ghost use Rattle.line_formats.specs.Table.{widths_of};
 
 use crate::index_12::{fill_bypassed, fill_corrected, is_index_12};
@@ -57,7 +57,7 @@ impl Source<'_> {
     // A plain run of a few indices, pixel by pixel. How many bits they have and from where they are counted is looked up once.
     fn fill_few(&self, x: usize, out: &mut [u32])
         requires { PlainReaches self.now (x + length out.old) × ((self.now.entry.format ≡ Format.Index8) ⊎ (self.now.entry.format ≡ Format.Index12)) }
-        ensures { Drawn self.now (plain_at self.now.screen.depth self.now.entry) x out.old out.new }
+        ensures { PlainDrawn self.now x out.old out.new }
     {
         let bits = self.entry.format.widths().bits;
         let first = first_entry(self.entry);
@@ -67,7 +67,7 @@ impl Source<'_> {
     // A plain run of indices.
     pub(crate) fn fill_mapped(&self, x: usize, out: &mut [u32])
         requires { PlainReaches self.now (x + length out.old) × ((self.now.entry.format ≡ Format.Index8) ⊎ (self.now.entry.format ≡ Format.Index12)) }
-        ensures { Drawn self.now (plain_at self.now.screen.depth self.now.entry) x out.old out.new }
+        ensures { PlainDrawn self.now x out.old out.new }
     {
         let index_12 = is_index_12(self.entry.format);
         if index_12 && self.entry.bypass {

@@ -2,7 +2,7 @@
 ghost use Rattle.std.specs.Prelude.{ℕ, ◌+◌, ◌≤◌, ◌<◌, ◌≡◌, length, get_or};
 ghost use Rattle.rules.specs.Lists.{changed};
 ghost use Rattle.line_pixels.specs.Inner.{overlaid_or, overlaid_by};
-ghost use Rattle.line_pixels.specs.Source.{view_of, Laid};
+ghost use Rattle.line_pixels.specs.Source.{view_of, OverlayLaid};
 ghost use Rattle.rules.specs.Rule.{value};
 
 use crate::correction::correct;
@@ -44,7 +44,7 @@ impl Source<'_> {
     // Overlay over a short run: each colour is worked out for its pixel.
     fn lay_short(&self, x: usize, out: &mut [u32])
         requires { x + length out.old ≤ length self.now.overlay.now }
-        ensures { Laid self.now (λ p under. overlaid_or self.now.entry (get_or self.now.overlay.now p 0) under) x out.old out.new }
+        ensures { OverlayLaid self.now x out.old out.new }
     {
         OneByOne::change(|i, under| self.overlay_or(self.overlay[x + i], under), out);
     }
@@ -52,7 +52,7 @@ impl Source<'_> {
     // Overlay over a long run.
     fn lay_long(&self, x: usize, out: &mut [u32])
         requires { x + length out.old ≤ length self.now.overlay.now }
-        ensures { Laid self.now (λ p under. overlaid_or self.now.entry (get_or self.now.overlay.now p 0) under) x out.old out.new }
+        ensures { OverlayLaid self.now x out.old out.new }
     {
         let mut colours = [0; 256];
         map_colours(self.store, OVERLAY_COLOURS, &mut colours);
@@ -63,7 +63,7 @@ impl Source<'_> {
     // Overlay over a run.
     pub(crate) fn lay_overlay(&self, x: usize, out: &mut [u32])
         requires { x + length out.old ≤ length self.now.overlay.now }
-        ensures { Laid self.now (λ p under. overlaid_or self.now.entry (get_or self.now.overlay.now p 0) under) x out.old out.new }
+        ensures { OverlayLaid self.now x out.old out.new }
     {
         if OVERLAY_RUN <= out.len() {
             self.lay_long(x, out);
