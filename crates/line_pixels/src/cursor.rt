@@ -3,7 +3,7 @@ ghost use Rattle.std.specs.Prelude.{◌+◌, ◌≤◌, ◌<◌, ◌≡◌, leng
 ghost use Rattle.chip_registers.specs.Store.{store_length};
 ghost use Rattle.line_pixels.specs.Cells.{glyph_cell};
 ghost use Rattle.line_pixels.specs.Cursor.{cursor_at};
-ghost use Rattle.line_pixels.specs.Inner.{OverStore, Among, cursor_or};
+ghost use Rattle.line_pixels.specs.Inner.{Among, cursor_or};
 ghost use Rattle.line_pixels.specs.Source.{view_of, Laid};
 ghost use Rattle.rules.specs.Rule.{value};
 ghost use Rattle.line_pixels.specs.Spans.{CommonSpan, NoneBeside};
@@ -56,27 +56,6 @@ fn common_span(x: usize, count: usize, first: usize, last: usize) -> Range<usize
 }
 
 impl Screen {
-    // Which cursor colour shows at a pixel, 0 for none.
-    #[tactic(auto, unfolding(crate::specs::Cursor::cursor_at, crate::specs::Cursor::in_glyph, crate::specs::Cursor::on_cross_hair))]
-    pub(crate) fn cursor_at(self, store: &[u32; STORE_WORDS], x: usize) -> u32
-        ensures { OverStore store.now (cursor_at self x) result × (result < 4) }
-    {
-        if !self.cursor {
-            return 0;
-        }
-        if self.crosshair {
-            return u32::from(x == self.cx || self.y == self.cy);
-        }
-        if !(among(self.cx, x, GLYPH_SIDE) && among(self.cy, self.y, GLYPH_SIDE)) {
-            return 0;
-        }
-        glyph_cell(
-            store,
-            GLYPH_LAST - (self.cy - self.y),
-            GLYPH_LAST - (self.cx - x),
-        )
-    }
-
     // Where a cursor colour can show among so many pixels from x on.
     #[tactic(auto, unfolding(crate::specs::Cursor::cursor_at, crate::specs::Cursor::in_glyph, crate::specs::Cursor::on_cross_hair))]
     fn cursor_span(self, x: usize, count: usize) -> Range<usize>
@@ -100,11 +79,33 @@ impl Screen {
 }
 
 impl Source<'_> {
+    // Which cursor colour shows at a pixel, 0 for none.
+    #[tactic(auto, unfolding(crate::specs::Cursor::cursor_at, crate::specs::Cursor::in_glyph, crate::specs::Cursor::on_cross_hair))]
+    pub(crate) fn cursor_at(&self, x: usize) -> u32
+        ensures { (result ≡ value (view_of self.now) (cursor_at self.now.screen x)) × (result < 4) }
+    {
+        let screen = self.screen;
+        if !screen.cursor {
+            return 0;
+        }
+        if screen.crosshair {
+            return u32::from(x == screen.cx || screen.y == screen.cy);
+        }
+        if !(among(screen.cx, x, GLYPH_SIDE) && among(screen.cy, screen.y, GLYPH_SIDE)) {
+            return 0;
+        }
+        glyph_cell(
+            self.store,
+            GLYPH_LAST - (screen.cy - screen.y),
+            GLYPH_LAST - (screen.cx - x),
+        )
+    }
+
     // The cursor colour of a pixel, or what is under it where none shows.
     fn cursor_or(&self, x: usize, under: u32) -> u32
         ensures { result ≡ value (view_of self.now) (cursor_or self.now.screen self.now.entry x under) }
     {
-        let number = self.screen.cursor_at(self.store, x);
+        let number = self.cursor_at(x);
         if number == 0 {
             return under;
         }

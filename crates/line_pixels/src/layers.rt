@@ -160,7 +160,7 @@ impl Source<'_> {
         requires { PixelsReach self.now (x + 1) }
         ensures { result ≡ value (view_of self.now) (colour_of_pixel self.now.screen self.now.entry x) }
     {
-        let number = self.screen.cursor_at(self.store, x);
+        let number = self.cursor_at(x);
         if number == 0 {
             return self.under_cursor(x);
         }

@@ -5,9 +5,9 @@ use Rattle.line_pixels.proofs.source.Source.cursor_or.Goals as goal
 pub returns-then-number-eq0 : goal.returns-then-number-eq0
 returns-then-number-eq0 c =
     let s = c.args.self.now in
-    or_under (view_of s) s.screen s.entry c.args.x (c.cursor_at-number.ensures.0 s.normal.now s.overlay.now) c.if-number-eq0.true
+    or_under (view_of s) s.screen s.entry c.args.x c.cursor_at-number.ensures.0 c.if-number-eq0.true
 
 pub returns : goal.returns
 returns c =
     let s = c.args.self.now in
-    or_cursor (view_of s) s.screen s.entry c.args.x (c.cursor_at-number.ensures.0 s.normal.now s.overlay.now) c.args.under c.if-number-eq0.false c.cursor_shown.ensures
+    or_cursor (view_of s) s.screen s.entry c.args.x c.cursor_at-number.ensures.0 c.args.under c.if-number-eq0.false c.cursor_shown.ensures
