@@ -45,10 +45,11 @@ impl Stepping for FourByFour {
         let fours = words.len() / 4;
         for turn in 0..fours {
             let i = 4 * turn;
-            let first = colour(i, words[i]);
+            // In this order the machine looks two up at once.
             let second = colour(i + 1, words[i + 1]);
             let third = colour(i + 2, words[i + 2]);
             let fourth = colour(i + 3, words[i + 3]);
+            let first = colour(i, words[i]);
             put_four(words, i, first, second, third, fourth);
         }
         for i in 4 * fours..words.len() {
