@@ -5,3 +5,4 @@ pub mod Cursor
 pub mod Colour
 pub mod Inner
 pub mod Spans
+pub mod SamplePlace
