@@ -17,7 +17,7 @@ mod paired;
 mod rgb;
 mod rgb_332;
 mod runs;
-mod sampling;
+mod source;
 mod store;
 mod sums;
 
