@@ -4,4 +4,5 @@ pub mod Cursor
 pub mod Colour
 pub mod Inner
 pub mod Spans
+pub mod SamplePlace
 pub mod Source

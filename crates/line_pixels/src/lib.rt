@@ -6,6 +6,7 @@ mod correction;
 mod cursor;
 pub mod fill;
 mod fours;
+mod held;
 mod index_12;
 mod layers;
 mod lengths;

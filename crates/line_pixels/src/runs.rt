@@ -45,10 +45,12 @@ impl Stepping for FourByFour {
         let fours = words.len() / 4;
         for turn in 0..fours {
             let i = 4 * turn;
-            let first = colour(i, words[i]);
-            let second = colour(i + 1, words[i + 1]);
-            let third = colour(i + 2, words[i + 2]);
-            let fourth = colour(i + 3, words[i + 3]);
+            let under = [words[i], words[i + 1], words[i + 2], words[i + 3]];
+            // In this order the machine looks two up at once.
+            let second = colour(i + 1, under[1]);
+            let third = colour(i + 2, under[2]);
+            let fourth = colour(i + 3, under[3]);
+            let first = colour(i, under[0]);
             put_four(words, i, first, second, third, fourth);
         }
         for i in 4 * fours..words.len() {
