@@ -37,14 +37,6 @@ pub record PixelsLent (screen : Screen) (entry : WindowEntry) (store normal over
 abbrev pub OverStore : List ℕ → Rule ⊥ PixelCell ℕ → ℕ → Type 0
 OverStore store rule colour = (normal overlay : List ℕ) → colour ≡ value (pixel_view store normal overlay) rule
 
--- a rule has this value, whatever the overlay row holds
-abbrev pub OverNormal : List ℕ → List ℕ → Rule ⊥ PixelCell ℕ → ℕ → Type 0
-OverNormal store normal rule colour = (overlay : List ℕ) → colour ≡ value (pixel_view store normal overlay) rule
-
--- a rule has this value, whatever store and normal row hold
-abbrev pub OverOverlay : List ℕ → Rule ⊥ PixelCell ℕ → ℕ → Type 0
-OverOverlay overlay rule byte = (store normal : List ℕ) → byte ≡ value (pixel_view store normal overlay) rule
-
 -- a test whether a place is one of `count` from `first` on
 abbrev pub Among : ℕ → ℕ → ℕ → Bool → Type 0
 Among place first count is =
@@ -71,20 +63,6 @@ FilledPlain depth entry store normal x count before after =
 abbrev pub FilledNormal : ℕ → WindowEntry → List ℕ → List ℕ → ℕ → ℕ → List ℕ → List ℕ → Type 0
 FilledNormal depth entry store normal x count before after =
     (overlay : List ℕ) → after ≡ filled (λ p. value (pixel_view store normal overlay) (normal_at depth entry p)) x before count
-
--- a run filled with what is under the cursor
-abbrev pub FilledUnder : Screen → WindowEntry → List ℕ → List ℕ → List ℕ → ℕ → ℕ → List ℕ → List ℕ → Type 0
-FilledUnder screen entry store normal overlay x count before after =
-    after ≡ filled (λ p. value (pixel_view store normal overlay) (under_cursor screen entry p)) x before count
-
--- a run filled with the colours of its pixels
-abbrev pub FilledPixels : Screen → WindowEntry → List ℕ → List ℕ → List ℕ → ℕ → ℕ → List ℕ → List ℕ → Type 0
-FilledPixels screen entry store normal overlay x count before after =
-    after ≡ filled (λ p. value (pixel_view store normal overlay) (colour_of_pixel screen entry p)) x before count
-
--- the colour of map entry `number`
-abbrev pub map_colour : List ℕ → ℕ → ℕ
-map_colour store number = get_or store (32 + number) 0 % 16777216
 
 -- the first `count` words gone through gamma, unless they bypass it, whatever the rows hold
 abbrev pub Corrected : List ℕ → Bool → List ℕ → ℕ → List ℕ → Type 0
@@ -150,11 +128,6 @@ paired_at fives pairs blues bytes at =
 unfoldable pub overlaid_or : WindowEntry → ℕ → ℕ → Rule ⊥ PixelCell ℕ
 overlaid_or entry byte under = cond (eqb byte 0) (done under) (overlaid entry byte)
 
--- overlay over the first `count` words of a run from x on, whatever the normal row holds
-abbrev pub Overlaid : WindowEntry → List ℕ → List ℕ → ℕ → List ℕ → ℕ → List ℕ → Type 0
-Overlaid entry store overlay x before count after =
-    (normal : List ℕ) → after ≡ changed (λ p under. value (pixel_view store normal overlay) (overlaid_or entry (get_or overlay p 0) under)) x before count
-
 -- a byte's colour among 256, or what is under it where the byte is 0
 abbrev pub overlaid_by : List ℕ → ℕ → ℕ → ℕ
 overlaid_by colours byte under = cond (eqb byte 0) under (get_or colours byte 0)
@@ -164,8 +137,3 @@ unfoldable pub cursor_or : Screen → WindowEntry → ℕ → ℕ → Rule ⊥ P
 cursor_or screen entry x under = do
   number ← cursor_at screen x
   cond (eqb number 0) (done under) (cursor_shown screen entry number)
-
--- the cursor over the first `count` words of a run from x on, whatever the rows hold
-abbrev pub CursorLaid : Screen → WindowEntry → List ℕ → ℕ → List ℕ → ℕ → List ℕ → Type 0
-CursorLaid screen entry store x before count after =
-    (normal overlay : List ℕ) → after ≡ changed (λ p under. value (pixel_view store normal overlay) (cursor_or screen entry p under)) x before count

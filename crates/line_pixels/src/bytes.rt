@@ -5,7 +5,7 @@ ghost use Rattle.std.specs.Prelude.{◌+◌, ◌*◌, ◌≤◌, ◌<◌, ◌≡
 pub(crate) fn wide(byte: u8) -> u32
     ensures { (result ≡ byte) × (result < 256) }
 {
-    byte as u32
+    u32::from(byte)
 }
 
 // The number in two bytes, the first the lowest.
@@ -13,7 +13,7 @@ pub(crate) fn le16(bytes: &[u8], at: usize) -> u32
     requires { at + 2 ≤ length bytes.now }
     ensures { (result ≡ get_or bytes.now at 0 + get_or bytes.now (at + 1) 0 * 256) × (get_or bytes.now at 0 < 256) × (get_or bytes.now (at + 1) 0 < 256) }
 {
-    wide(bytes[at]) + wide(bytes[at + 1]) * 256
+    u32::from(bytes[at]) + u32::from(bytes[at + 1]) * 256
 }
 
 // The number in four bytes, the first the lowest.
@@ -21,8 +21,8 @@ pub(crate) fn le32(bytes: &[u8], at: usize) -> u32
     requires { at + 4 ≤ length bytes.now }
     ensures { (result ≡ get_or bytes.now at 0 + get_or bytes.now (at + 1) 0 * 256 + get_or bytes.now (at + 2) 0 * 65536 + get_or bytes.now (at + 3) 0 * 16777216) × (get_or bytes.now at 0 < 256) × (get_or bytes.now (at + 1) 0 < 256) × (get_or bytes.now (at + 2) 0 < 256) × (get_or bytes.now (at + 3) 0 < 256) }
 {
-    wide(bytes[at])
-        + wide(bytes[at + 1]) * 256
-        + wide(bytes[at + 2]) * 65536
-        + wide(bytes[at + 3]) * 16777216
+    u32::from(bytes[at])
+        + u32::from(bytes[at + 1]) * 256
+        + u32::from(bytes[at + 2]) * 65536
+        + u32::from(bytes[at + 3]) * 16777216
 }

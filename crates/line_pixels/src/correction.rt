@@ -7,11 +7,11 @@ ghost use Rattle.line_pixels.specs.Inner.{Corrected, SplitBy, TablesFit, by_tabl
 use crate::fours::put_four;
 use crate::layers::through_gamma;
 use crate::lengths::SPLIT_WORDS;
-use chip_registers::GAMMA_MAP_START;
+use chip_registers::{GAMMA_MAP_START, STORE_WORDS};
 
 // The first so many words through gamma, each by the map.
-fn correct_few(store: &[u32], words: &mut [u32], count: usize)
-    requires { (length store.now ≡ store_length) × (count ≤ length words.old) }
+fn correct_few(store: &[u32; STORE_WORDS], words: &mut [u32], count: usize)
+    requires { (count ≤ length words.old) }
     ensures { Corrected store.now false words.old count words.new }
 {
     let mut i = 0;
@@ -23,12 +23,12 @@ fn correct_few(store: &[u32], words: &mut [u32], count: usize)
 
 // The gamma map split into its channels, each where it stands in a colour.
 pub(crate) fn split(
-    store: &[u32],
+    store: &[u32; STORE_WORDS],
     red: &mut [u32; 256],
     green: &mut [u32; 256],
     blue: &mut [u32; 256],
 )
-    requires { (length store.now ≡ store_length) × (length red.old ≡ 256) × (length green.old ≡ 256) × (length blue.old ≡ 256) }
+    requires { (length red.old ≡ 256) × (length green.old ≡ 256) × (length blue.old ≡ 256) }
     ensures { SplitBy store.now red.new green.new blue.new }
 {
     let mut k = 0;
@@ -78,8 +78,8 @@ fn correct_by(
 }
 
 // The first so many words through gamma, by three tables.
-fn correct_many(store: &[u32], words: &mut [u32], count: usize)
-    requires { (length store.now ≡ store_length) × (count ≤ length words.old) }
+fn correct_many(store: &[u32; STORE_WORDS], words: &mut [u32], count: usize)
+    requires { (count ≤ length words.old) }
     ensures { Corrected store.now false words.old count words.new }
 {
     let mut red = [0; 256];
@@ -90,8 +90,8 @@ fn correct_many(store: &[u32], words: &mut [u32], count: usize)
 }
 
 // The first so many words through gamma, unless they bypass it.
-pub(crate) fn correct(store: &[u32], bypass: bool, words: &mut [u32], count: usize)
-    requires { (length store.now ≡ store_length) × (count ≤ length words.old) }
+pub(crate) fn correct(store: &[u32; STORE_WORDS], bypass: bool, words: &mut [u32], count: usize)
+    requires { (count ≤ length words.old) }
     ensures { Corrected store.now bypass words.old count words.new }
 {
     if bypass {

@@ -1,15 +1,18 @@
 // The cursor and the cross-hair.
-ghost use Rattle.std.specs.Prelude.{◌+◌, ◌-◌, ◌≤◌, ◌<◌, ◌≡◌, ◌⊎◌, length};
+ghost use Rattle.std.specs.Prelude.{◌+◌, ◌≤◌, ◌<◌, ◌≡◌, length};
 ghost use Rattle.chip_registers.specs.Store.{store_length};
 ghost use Rattle.line_pixels.specs.Cells.{glyph_cell};
 ghost use Rattle.line_pixels.specs.Cursor.{cursor_at};
-ghost use Rattle.line_pixels.specs.Inner.{OverStore, Among, cursor_or, CursorLaid};
+ghost use Rattle.line_pixels.specs.Inner.{Among, cursor_or};
+ghost use Rattle.line_pixels.specs.Source.{view_of, Laid};
+ghost use Rattle.rules.specs.Rule.{value};
 ghost use Rattle.line_pixels.specs.Spans.{CommonSpan, NoneBeside};
 
 use crate::Screen;
+use crate::source::Source;
 use crate::store::stored;
-use chip_registers::{Block, Register};
-use line_colour::entry::WindowEntry;
+use chip_registers::{Block, Register, STORE_WORDS};
+use std::ops::Range;
 
 // The columns and the rows of the glyph.
 const GLYPH_SIDE: usize = 32;
@@ -21,8 +24,8 @@ const GLYPH_LAST: usize = 31;
 const WORD_CELLS: usize = 16;
 
 // The number in a cell of the glyph.
-fn glyph_cell(store: &[u32], row: usize, column: usize) -> u32
-    requires { (length store.now ≡ store_length) × (row < 32) × (column < 32) }
+fn glyph_cell(store: &[u32; STORE_WORDS], row: usize, column: usize) -> u32
+    requires { (row < 32) × (column < 32) }
     ensures { (result ≡ glyph_cell store.now row column) × (result < 4) }
 {
     let register = Register {
@@ -37,139 +40,87 @@ fn glyph_cell(store: &[u32], row: usize, column: usize) -> u32
 fn among(place: usize, first: usize, count: usize) -> bool
     ensures { Among place first count result }
 {
-    if place < first {
-        return false;
-    }
-    place - first < count
-}
-
-// Some of the pixels of a run.
-#[derive(Drop)]
-struct Span {
-    // The first of them, counted from the run's first.
-    first: usize,
-    // The pixel behind the last, counted alike.
-    end: usize,
-}
-
-// A number less another, 0 where that is greater.
-fn less(number: usize, other: usize) -> usize
-    ensures { result ≡ number - other }
-{
-    if number < other {
-        return 0;
-    }
-    number - other
-}
-
-// The smaller of two numbers.
-fn smaller(number: usize, other: usize) -> usize
-    ensures { (result ≤ number) × (result ≤ other) × ((result ≡ number) ⊎ (result ≡ other)) }
-{
-    if number < other {
-        return number;
-    }
-    other
+    first <= place && place - first < count
 }
 
 // The pixels of a run of so many from x on that are neither before one pixel nor behind another.
-fn common_span(x: usize, count: usize, first: usize, last: usize) -> Span
+fn common_span(x: usize, count: usize, first: usize, last: usize) -> Range<usize>
     requires { count ≤ 65536 }
     ensures { CommonSpan x count first last result }
 {
     if last < x {
-        return Span { first: 0, end: 0 };
+        return 0..0;
     }
-    let end = smaller(smaller(last - x, count) + 1, count);
-    Span {
-        first: smaller(less(first, x), end),
-        end,
-    }
+    let end = (last - x).saturating_add(1).min(count);
+    first.saturating_sub(x).min(end)..end
 }
 
 impl Screen {
-    // Which cursor colour shows at a pixel, 0 for none.
-    pub(crate) fn cursor_at(self, store: &[u32], x: usize) -> u32
-        requires { length store.now ≡ store_length }
-        ensures { OverStore store.now (cursor_at self x) result × (result < 4) }
-    {
-        if !self.cursor {
-            return 0;
-        }
-        if self.crosshair {
-            if x == self.cx {
-                return 1;
-            }
-            if self.y == self.cy {
-                return 1;
-            }
-            return 0;
-        }
-        if !among(self.cx, x, GLYPH_SIDE) {
-            return 0;
-        }
-        if !among(self.cy, self.y, GLYPH_SIDE) {
-            return 0;
-        }
-        glyph_cell(
-            store,
-            GLYPH_LAST - (self.cy - self.y),
-            GLYPH_LAST - (self.cx - x),
-        )
-    }
-
     // Where a cursor colour can show among so many pixels from x on.
-    fn cursor_span(self, x: usize, count: usize) -> Span
+    #[tactic(auto, unfolding(crate::specs::Cursor::cursor_at, crate::specs::Cursor::in_glyph, crate::specs::Cursor::on_cross_hair))]
+    fn cursor_span(self, x: usize, count: usize) -> Range<usize>
         requires { x + count ≤ 65536 }
         ensures { NoneBeside self x count result }
     {
         if !self.cursor {
-            return Span { first: 0, end: 0 };
+            return 0..0;
         }
         if self.crosshair {
             if self.y == self.cy {
-                return Span {
-                    first: 0,
-                    end: count,
-                };
+                return 0..count;
             }
             return common_span(x, count, self.cx, self.cx);
         }
         if !among(self.cy, self.y, GLYPH_SIDE) {
-            return Span { first: 0, end: 0 };
+            return 0..0;
         }
-        common_span(x, count, less(self.cx, GLYPH_LAST), self.cx)
+        common_span(x, count, self.cx.saturating_sub(GLYPH_LAST), self.cx)
+    }
+}
+
+impl Source<'_> {
+    // Which cursor colour shows at a pixel, 0 for none.
+    #[tactic(auto, unfolding(crate::specs::Cursor::cursor_at, crate::specs::Cursor::in_glyph, crate::specs::Cursor::on_cross_hair))]
+    pub(crate) fn cursor_at(&self, x: usize) -> u32
+        ensures { (result ≡ value (view_of self.now) (cursor_at self.now.screen x)) × (result < 4) }
+    {
+        let screen = self.screen;
+        if !screen.cursor {
+            return 0;
+        }
+        if screen.crosshair {
+            return u32::from(x == screen.cx || screen.y == screen.cy);
+        }
+        if !(among(screen.cx, x, GLYPH_SIDE) && among(screen.cy, screen.y, GLYPH_SIDE)) {
+            return 0;
+        }
+        glyph_cell(
+            self.store,
+            GLYPH_LAST - (screen.cy - screen.y),
+            GLYPH_LAST - (screen.cx - x),
+        )
     }
 
     // The cursor colour of a pixel, or what is under it where none shows.
-    fn cursor_or(self, entry: WindowEntry, store: &[u32], x: usize, under: u32) -> u32
-        requires { length store.now ≡ store_length }
-        ensures { OverStore store.now (cursor_or self entry x under) result }
+    #[tactic(auto, using(rules::proofs::Value::value_then), unfolding(crate::specs::Inner::cursor_or))]
+    fn cursor_or(&self, x: usize, under: u32) -> u32
+        ensures { result ≡ value (view_of self.now) (cursor_or self.now.screen self.now.entry x under) }
     {
-        let number = self.cursor_at(store, x);
+        let number = self.cursor_at(x);
         if number == 0 {
             return under;
         }
-        self.cursor_shown(entry, store, number)
+        self.cursor_shown(number)
     }
 
     // The cursor over a run that is drawn already: only pixels at which it can show are looked at.
-    pub(crate) fn lay_cursor(
-        self,
-        entry: WindowEntry,
-        store: &[u32],
-        x: usize,
-        count: usize,
-        out: &mut [u32],
-    )
-        requires { (length store.now ≡ store_length) × (x + count ≤ 65536) × (count ≤ length out.old) }
-        ensures { CursorLaid self entry store.now x out.old count out.new }
+    pub(crate) fn lay_cursor(&self, x: usize, out: &mut [u32])
+        requires { x + length out.old ≤ 65536 }
+        ensures { Laid self.now (cursor_or self.now.screen self.now.entry) x out.old out.new }
     {
-        let span = self.cursor_span(x, count);
-        let mut i = span.first;
-        while i < span.end {
-            out[i] = self.cursor_or(entry, store, x + i, out[i]);
-            i += 1;
+        let span = self.screen.cursor_span(x, out.len());
+        for i in span.start..span.end {
+            out[i] = self.cursor_or(x + i, out[i]);
         }
     }
 }

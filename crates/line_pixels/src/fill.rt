@@ -3,17 +3,19 @@ ghost use Rattle.std.specs.Prelude.{◌+◌, ◌≤◌, ◌≡◌, true, false, 
 ghost use Rattle.rules.specs.Rule.{value};
 ghost use Rattle.rules.specs.Lists.{filled};
 ghost use Rattle.line_pixels.specs.Cells.{pixel_view};
-ghost use Rattle.line_pixels.specs.Colour.{colour_of_pixel};
-ghost use Rattle.line_pixels.specs.Inner.{PlainLent, PixelsLent, FilledPlain, FilledUnder, FilledPixels};
+ghost use Rattle.line_pixels.specs.Colour.{plain_at, under_cursor, colour_of_pixel};
+ghost use Rattle.line_pixels.specs.Inner.{PixelsLent};
+ghost use Rattle.line_pixels.specs.Source.{PlainReaches, PixelsReach, Drawn, PlainDrawn};
 
 use crate::Screen;
 use crate::correction::correct;
 use crate::lengths::{LAYERED_RUN, PAIRED_RUN, shortest_looked_up};
 use crate::looked_up::fill_looked_up;
-use crate::mapped::fill_mapped;
-use crate::overlay::lay_overlay;
 use crate::paired::{fill_paired, is_paired};
 use crate::rgb::fill_rgb;
+use crate::runs::{OneByOne, Stepping};
+use crate::source::Source;
+use chip_registers::STORE_WORDS;
 use line_colour::entry::WindowEntry;
 use line_formats::Format;
 
@@ -21,129 +23,71 @@ use line_formats::Format;
 fn indexed(format: Format) -> bool
     ensures { (result ≡ true → (format ≡ Format.Index8) ⊎ (format ≡ Format.Index12)) × (result ≡ false → (format ≡ Format.Rgb332) ⊎ (format ≡ Format.Rgb444) ⊎ (format ≡ Format.Rgb555) ⊎ (format ≡ Format.Rgb888)) }
 {
-    match format {
-        Format::Index8 => true,
-        Format::Index12 => true,
-        Format::Rgb332 => false,
-        Format::Rgb444 => false,
-        Format::Rgb555 => false,
-        Format::Rgb888 => false,
-    }
+    matches!(format, Format::Index8 | Format::Index12)
 }
 
 // Whether the samples of a format have 8 bits.
 fn samples_of_8(format: Format) -> bool
     ensures { result ≡ true → (format ≡ Format.Index8) ⊎ (format ≡ Format.Rgb332) }
 {
-    match format {
-        Format::Index8 => true,
-        Format::Rgb332 => true,
-        Format::Index12 => false,
-        Format::Rgb444 => false,
-        Format::Rgb555 => false,
-        Format::Rgb888 => false,
-    }
+    matches!(format, Format::Index8 | Format::Rgb332)
 }
 
-// A run's colours where neither cursor nor overlay shows.
-fn fill_plain(
-    depth: u32,
-    entry: WindowEntry,
-    store: &[u32],
-    normal: &[u8],
-    x: usize,
-    count: usize,
-    out: &mut [u32],
-)
-    requires { PlainLent depth entry store.now normal.now (x + count) × (count ≤ length out.old) }
-    ensures { FilledPlain depth entry store.now normal.now x count out.old out.new }
-{
-    let format = entry.format;
-    if shortest_looked_up(entry.bypass) <= count {
-        if samples_of_8(format) {
-            fill_looked_up(depth, entry, store, normal, x, count, out);
-            return;
-        }
-    }
-    if PAIRED_RUN <= count {
-        if is_paired(entry) {
-            fill_paired(depth, entry, store, normal, x, count, out);
-            return;
-        }
-    }
-    if indexed(format) {
-        fill_mapped(depth, entry, store, normal, x, count, out);
-        return;
-    }
-    fill_rgb(depth, entry, normal, x, count, out);
-    correct(store, entry.bypass, out, count);
-}
-
-impl Screen {
-    // A run, pixel by pixel.
-    fn fill_pixels(
-        self,
-        entry: WindowEntry,
-        store: &[u32],
-        normal: &[u8],
-        overlay: &[u8],
-        x: usize,
-        count: usize,
-        out: &mut [u32],
-    )
-        requires { PixelsLent self entry store.now normal.now overlay.now (x + count) × (x + count ≤ 65536) × (count ≤ length out.old) }
-        ensures { FilledPixels self entry store.now normal.now overlay.now x count out.old out.new }
+impl Source<'_> {
+    // A run's colours where neither cursor nor overlay shows.
+    fn fill_plain(&self, x: usize, out: &mut [u32])
+        requires { PlainReaches self.now (x + length out.old) }
+        ensures { PlainDrawn self.now x out.old out.new }
     {
-        let mut i = 0;
-        while i < count {
-            out[i] = self.colour_of_pixel(entry, store, normal, overlay, x + i);
-            i += 1;
+        let depth = self.screen.depth;
+        let entry = self.entry;
+        if shortest_looked_up(entry.bypass) <= out.len() && samples_of_8(entry.format) {
+            fill_looked_up(depth, entry, self.store, self.normal, x, out.len(), out);
+        } else if PAIRED_RUN <= out.len() && is_paired(entry) {
+            fill_paired(depth, entry, self.store, self.normal, x, out.len(), out);
+        } else if indexed(entry.format) {
+            self.fill_mapped(x, out);
+        } else {
+            fill_rgb(depth, entry, self.normal, x, out.len(), out);
+            correct(self.store, entry.bypass, out, out.len());
         }
+    }
+
+    // A run, pixel by pixel.
+    fn fill_pixels(&self, x: usize, out: &mut [u32])
+        requires { PixelsReach self.now (x + length out.old) × (x + length out.old ≤ 65536) }
+        ensures { Drawn self.now (colour_of_pixel self.now.screen self.now.entry) x out.old out.new }
+    {
+        OneByOne::fill(|i| self.colour_of_pixel(x + i), out);
     }
 
     // A run without the cursor: its plain colours, and overlay over them where it counts.
-    fn fill_under_cursor(
-        self,
-        entry: WindowEntry,
-        store: &[u32],
-        normal: &[u8],
-        overlay: &[u8],
-        x: usize,
-        count: usize,
-        out: &mut [u32],
-    )
-        requires { PixelsLent self entry store.now normal.now overlay.now (x + count) × (count ≤ length out.old) }
-        ensures { FilledUnder self entry store.now normal.now overlay.now x count out.old out.new }
+    fn fill_under_cursor(&self, x: usize, out: &mut [u32])
+        requires { PixelsReach self.now (x + length out.old) }
+        ensures { Drawn self.now (under_cursor self.now.screen self.now.entry) x out.old out.new }
     {
-        fill_plain(self.depth, entry, store, normal, x, count, out);
-        if self.overlay_counts(entry) {
-            lay_overlay(entry, store, overlay, x, count, out);
+        self.fill_plain(x, out);
+        if self.screen.overlay_counts(self.entry) {
+            self.lay_overlay(x, out);
         }
     }
 
     // A run, layer by layer: what is under the cursor, and the cursor over it.
-    fn fill_layers(
-        self,
-        entry: WindowEntry,
-        store: &[u32],
-        normal: &[u8],
-        overlay: &[u8],
-        x: usize,
-        count: usize,
-        out: &mut [u32],
-    )
-        requires { PixelsLent self entry store.now normal.now overlay.now (x + count) × (x + count ≤ 65536) × (count ≤ length out.old) }
-        ensures { FilledPixels self entry store.now normal.now overlay.now x count out.old out.new }
+    fn fill_layers(&self, x: usize, out: &mut [u32])
+        requires { PixelsReach self.now (x + length out.old) × (x + length out.old ≤ 65536) }
+        ensures { Drawn self.now (colour_of_pixel self.now.screen self.now.entry) x out.old out.new }
     {
-        self.fill_under_cursor(entry, store, normal, overlay, x, count, out);
-        self.lay_cursor(entry, store, x, count, out);
+        self.fill_under_cursor(x, out);
+        self.lay_cursor(x, out);
     }
+}
 
+impl Screen {
     // A run of so many pixels from x on.
     pub fn fill(
         self,
         entry: WindowEntry,
-        store: &[u32],
+        store: &[u32; STORE_WORDS],
         normal: &[u8],
         overlay: &[u8],
         x: usize,
@@ -153,10 +97,18 @@ impl Screen {
         requires { PixelsLent self entry store.now normal.now overlay.now (x + count) × (x + count ≤ 65536) × (count ≤ length out.old) }
         ensures { out.new ≡ filled (λ p. value (pixel_view store.now normal.now overlay.now) (colour_of_pixel self entry p)) x out.old count }
     {
+        let source = Source {
+            screen: self,
+            entry,
+            store,
+            normal,
+            overlay,
+        };
+        let run = &mut out[..count];
         if count < LAYERED_RUN {
-            self.fill_pixels(entry, store, normal, overlay, x, count, out);
+            source.fill_pixels(x, run);
         } else {
-            self.fill_layers(entry, store, normal, overlay, x, count, out);
+            source.fill_layers(x, run);
         }
     }
 }

@@ -6,7 +6,7 @@ ghost use Rattle.line_pixels.specs.Inner.{PlainLent, TablesFit, by_tables, index
 use crate::bytes::le16;
 use crate::correction::{split, through};
 use crate::fours::put_four;
-use chip_registers::{COLOUR_MAP_START, GAMMA_MAP_START};
+use chip_registers::{COLOUR_MAP_START, GAMMA_MAP_START, STORE_WORDS};
 use line_colour::entry::WindowEntry;
 use line_formats::Format;
 
@@ -129,7 +129,7 @@ fn map_run_by(
 pub(crate) fn fill_bypassed(
     depth: u32,
     entry: WindowEntry,
-    store: &[u32],
+    store: &[u32; STORE_WORDS],
     normal: &[u8],
     x: usize,
     count: usize,
@@ -151,7 +151,7 @@ pub(crate) fn fill_bypassed(
 pub(crate) fn fill_corrected(
     depth: u32,
     entry: WindowEntry,
-    store: &[u32],
+    store: &[u32; STORE_WORDS],
     normal: &[u8],
     x: usize,
     count: usize,

@@ -24,7 +24,8 @@ pub(crate) fn shortest_looked_up(bypass: bool) -> usize
     ensures { result ≡ cond bypass 64 192 }
 {
     if bypass {
-        return LOOKED_UP_BYPASSED;
+        LOOKED_UP_BYPASSED
+    } else {
+        LOOKED_UP_CORRECTED
     }
-    LOOKED_UP_CORRECTED
 }

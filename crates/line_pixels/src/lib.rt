@@ -6,6 +6,7 @@ mod correction;
 mod cursor;
 pub mod fill;
 mod fours;
+mod held;
 mod index_12;
 mod layers;
 mod lengths;
@@ -15,7 +16,8 @@ mod overlay;
 mod paired;
 mod rgb;
 mod rgb_332;
-mod sampling;
+mod runs;
+mod source;
 mod store;
 mod sums;
 

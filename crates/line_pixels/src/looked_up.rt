@@ -11,6 +11,7 @@ use crate::correction::correct;
 use crate::fours::put_four;
 use crate::mapped::map_colours;
 use crate::rgb_332::colours_332;
+use chip_registers::STORE_WORDS;
 use line_colour::entry::WindowEntry;
 use line_formats::{Format, Index8};
 
@@ -56,8 +57,13 @@ fn look_up(
 }
 
 // The normal colours of all samples under an entry of 8-bit samples.
-fn normal_colours(depth: u32, entry: WindowEntry, store: &[u32], colours: &mut [u32; 256])
-    requires { SaidAt depth entry × (length store.now ≡ store_length) × (length colours.old ≡ 256) × ((entry.format ≡ Format.Index8) ⊎ (entry.format ≡ Format.Rgb332)) }
+fn normal_colours(
+    depth: u32,
+    entry: WindowEntry,
+    store: &[u32; STORE_WORDS],
+    colours: &mut [u32; 256],
+)
+    requires { SaidAt depth entry × (length colours.old ≡ 256) × ((entry.format ≡ Format.Index8) ⊎ (entry.format ≡ Format.Rgb332)) }
     ensures { (length colours.new ≡ 256) × ((sample : ℕ) → sample < 256 → OverStore store.now (shown_colour (shown_of entry sample)) (get_or colours.new sample 0)) }
 {
     let format = entry.format;
@@ -74,7 +80,7 @@ fn normal_colours(depth: u32, entry: WindowEntry, store: &[u32], colours: &mut [
 pub(crate) fn fill_looked_up(
     depth: u32,
     entry: WindowEntry,
-    store: &[u32],
+    store: &[u32; STORE_WORDS],
     normal: &[u8],
     x: usize,
     count: usize,

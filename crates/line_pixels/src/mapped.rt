@@ -1,38 +1,29 @@
 // Colours of the map: those of 256 entries, and runs of indices.
 ghost use Rattle.std.specs.Prelude.{ℕ, ◌+◌, ◌≤◌, ◌<◌, ◌≡◌, ◌⊎◌, length, get_or};
-ghost use Rattle.rules.specs.Rule.{get};
+ghost use Rattle.rules.specs.Rule.{get, value};
 ghost use Rattle.chip_registers.specs.Blocks.{count};
 ghost use Rattle.chip_registers.specs.Store.{store_length};
 ghost use Rattle.line_pixels.specs.Cells.{map_entry};
-ghost use Rattle.line_pixels.specs.Sampling.{sampling_of};
-ghost use Rattle.line_pixels.specs.Inner.{PlainLent, OverStore, CountedFrom, map_colour, FilledPlain};
+ghost use Rattle.line_pixels.specs.Colour.{plain_at};
+ghost use Rattle.line_pixels.specs.Inner.{OverStore, CountedFrom};
+ghost use Rattle.line_pixels.specs.Source.{view_of, PlainReaches, PlainDrawn};
+ghost use Rattle.line_formats.specs.Table.{widths_of};
 
 use crate::index_12::{fill_bypassed, fill_corrected, is_index_12};
 use crate::layers::{mapped, through_gamma};
 use crate::lengths::SPLIT_WORDS;
-use crate::sampling::Sampling;
-use chip_registers::{Block, COLOUR_MAP_START};
+use crate::runs::{OneByOne, Stepping};
+use crate::source::Source;
+use chip_registers::{Block, STORE_WORDS};
 use line_colour::entry::WindowEntry;
 use line_formats::{Format, Index8};
 
 // The 256 colours of the map from entry `first` on.
-pub(crate) fn map_colours(store: &[u32], first: u32, colours: &mut [u32; 256])
-    requires { (length store.now ≡ store_length) × (first + 256 ≤ count Block.ColourMap) × (length colours.old ≡ 256) }
-    ensures { (length colours.new ≡ 256) × ((k : ℕ) → k < 256 → OverStore store.now (get (map_entry (first + k))) (get_or colours.new k 0)) }
+pub(crate) fn map_colours(store: &[u32; STORE_WORDS], first: u32, colours: &mut [u32; 256])
+    requires { first + 256 ≤ count Block.ColourMap }
+    ensures { (k : ℕ) → k < 256 → OverStore store.now (get (map_entry (first + k))) (get_or colours.new k 0) }
 {
-    let mut k = 0;
-    while k < 256 {
-        colours[k] = mapped(store, first + k as u32);
-        k += 1;
-    }
-}
-
-// The colour of a map entry: what `mapped` answers, by its place in the store.
-fn entry_colour(store: &[u32], number: u32) -> u32
-    requires { (length store.now ≡ store_length) × (number < count Block.ColourMap) }
-    ensures { result ≡ map_colour store.now number }
-{
-    store[COLOUR_MAP_START + number as usize] % 16777216
+    OneByOne::fill(|k| mapped(store, first + k as u32), colours);
 }
 
 // The map entry from which the indices under an entry are counted.
@@ -40,8 +31,7 @@ fn first_entry(entry: WindowEntry) -> u32
     requires { (entry.format ≡ Format.Index8) ⊎ (entry.format ≡ Format.Index12) }
     ensures { CountedFrom entry result }
 {
-    let format = entry.format;
-    match format {
+    match entry.format {
         Format::Index12 => 0,
         // An 8-bit index is all that is left.
         Format::Index8 | Format::Rgb332 | Format::Rgb444 | Format::Rgb555 | Format::Rgb888 => {
@@ -50,62 +40,58 @@ fn first_entry(entry: WindowEntry) -> u32
     }
 }
 
-// A plain run of a few indices, counted from map entry `first`, pixel by pixel.
-fn fill_few(
-    depth: u32,
-    sampling: Sampling,
-    first: u32,
-    store: &[u32],
-    normal: &[u8],
-    x: usize,
-    count: usize,
-    out: &mut [u32],
-)
-    requires { PlainLent depth sampling.entry store.now normal.now (x + count) × (sampling ≡ sampling_of sampling.entry) × CountedFrom sampling.entry first × (count ≤ length out.old) }
-    ensures { FilledPlain depth sampling.entry store.now normal.now x count out.old out.new }
-{
-    let mut i = 0;
-    while i < count {
-        let index = sampling.sample_at(depth, normal, x + i);
-        let colour = entry_colour(store, first + index);
-        out[i] = through_gamma(store, sampling.entry.bypass, colour);
-        i += 1;
+impl Source<'_> {
+    // The plain colour of a pixel whose index has so many bits and is counted from map entry `first`.
+    fn indexed_at(&self, bits: u32, first: u32, x: usize) -> u32
+        requires { PlainReaches self.now (x + 1) × (bits ≡ (widths_of self.now.entry.format).bits) × CountedFrom self.now.entry first }
+        ensures { result ≡ value (view_of self.now) (plain_at self.now.screen.depth self.now.entry x) }
+    {
+        let index = self.sample_at(bits, x);
+        through_gamma(
+            self.store,
+            self.entry.bypass,
+            mapped(self.store, first + index),
+        )
     }
-}
 
-// A plain run of indices.
-pub(crate) fn fill_mapped(
-    depth: u32,
-    entry: WindowEntry,
-    store: &[u32],
-    normal: &[u8],
-    x: usize,
-    count: usize,
-    out: &mut [u32],
-)
-    requires { PlainLent depth entry store.now normal.now (x + count) × ((entry.format ≡ Format.Index8) ⊎ (entry.format ≡ Format.Index12)) × (count ≤ length out.old) }
-    ensures { FilledPlain depth entry store.now normal.now x count out.old out.new }
-{
-    let format = entry.format;
-    if is_index_12(format) {
-        if entry.bypass {
-            fill_bypassed(depth, entry, store, normal, x, count, out);
-            return;
-        }
-        if SPLIT_WORDS <= count {
-            fill_corrected(depth, entry, store, normal, x, count, out);
-            return;
+    // A plain run of a few indices, pixel by pixel. How many bits they have and from where they are counted is looked up once.
+    fn fill_few(&self, x: usize, out: &mut [u32])
+        requires { PlainReaches self.now (x + length out.old) × ((self.now.entry.format ≡ Format.Index8) ⊎ (self.now.entry.format ≡ Format.Index12)) }
+        ensures { PlainDrawn self.now x out.old out.new }
+    {
+        let bits = self.entry.format.widths().bits;
+        let first = first_entry(self.entry);
+        OneByOne::fill(|i| self.indexed_at(bits, first, x + i), out);
+    }
+
+    // A plain run of indices.
+    pub(crate) fn fill_mapped(&self, x: usize, out: &mut [u32])
+        requires { PlainReaches self.now (x + length out.old) × ((self.now.entry.format ≡ Format.Index8) ⊎ (self.now.entry.format ≡ Format.Index12)) }
+        ensures { PlainDrawn self.now x out.old out.new }
+    {
+        let index_12 = is_index_12(self.entry.format);
+        if index_12 && self.entry.bypass {
+            fill_bypassed(
+                self.screen.depth,
+                self.entry,
+                self.store,
+                self.normal,
+                x,
+                out.len(),
+                out,
+            );
+        } else if index_12 && SPLIT_WORDS <= out.len() {
+            fill_corrected(
+                self.screen.depth,
+                self.entry,
+                self.store,
+                self.normal,
+                x,
+                out.len(),
+                out,
+            );
+        } else {
+            self.fill_few(x, out);
         }
     }
-    let first = first_entry(entry);
-    fill_few(
-        depth,
-        Sampling::of(entry),
-        first,
-        store,
-        normal,
-        x,
-        count,
-        out,
-    );
 }

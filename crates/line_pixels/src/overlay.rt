@@ -1,50 +1,19 @@
 // Overlay over a run that is drawn already: in a long one the colours of all 256 bytes are made once, through gamma.
 ghost use Rattle.std.specs.Prelude.{ℕ, ◌+◌, ◌≤◌, ◌<◌, ◌≡◌, length, get_or};
 ghost use Rattle.rules.specs.Lists.{changed};
-ghost use Rattle.chip_registers.specs.Store.{store_length};
-ghost use Rattle.line_pixels.specs.Inner.{OverStore, overlaid_or, Overlaid, overlaid_by};
+ghost use Rattle.line_pixels.specs.Inner.{overlaid_or, overlaid_by};
+ghost use Rattle.line_pixels.specs.Source.{view_of, OverlayLaid};
+ghost use Rattle.rules.specs.Rule.{value};
 
-use crate::bytes::wide;
 use crate::correction::correct;
-use crate::fours::put_four;
-use crate::layers::{OVERLAY_COLOURS, overlay_shown};
+use crate::layers::OVERLAY_COLOURS;
 use crate::lengths::OVERLAY_RUN;
 use crate::mapped::map_colours;
-use line_colour::entry::WindowEntry;
-
-// The colour of an overlay byte, or what is under it where the byte is 0.
-fn overlay_or(entry: WindowEntry, store: &[u32], byte: u32, under: u32) -> u32
-    requires { (length store.now ≡ store_length) × (byte < 256) }
-    ensures { OverStore store.now (overlaid_or entry byte under) result }
-{
-    if byte == 0 {
-        return under;
-    }
-    overlay_shown(entry, store, byte)
-}
-
-// Overlay over a short run: each colour is worked out for its pixel.
-fn lay_short(
-    entry: WindowEntry,
-    store: &[u32],
-    overlay: &[u8],
-    x: usize,
-    count: usize,
-    out: &mut [u32],
-)
-    requires { (length store.now ≡ store_length) × (x + count ≤ length overlay.now) × (count ≤ length out.old) }
-    ensures { Overlaid entry store.now overlay.now x out.old count out.new }
-{
-    let mut i = 0;
-    while i < count {
-        out[i] = overlay_or(entry, store, wide(overlay[x + i]), out[i]);
-        i += 1;
-    }
-}
+use crate::runs::{FourByFour, OneByOne, Stepping};
+use crate::source::Source;
 
 // The colour of a byte, or what is under it where the byte is 0.
 fn over(colours: &[u32; 256], byte: u8, under: u32) -> u32
-    requires { length colours.now ≡ 256 }
     ensures { result ≡ overlaid_by colours.now byte under }
 {
     let colour = colours[byte as usize];
@@ -52,58 +21,54 @@ fn over(colours: &[u32; 256], byte: u8, under: u32) -> u32
 }
 
 // Overlay by the colours of all bytes.
-fn lay_by(colours: &[u32; 256], overlay: &[u8], x: usize, count: usize, out: &mut [u32])
-    requires { (length colours.now ≡ 256) × (x + count ≤ length overlay.now) × (count ≤ length out.old) }
-    ensures { out.new ≡ changed (λ p under. overlaid_by colours.now (get_or overlay.now p 0) under) x out.old count }
+fn lay_by(colours: &[u32; 256], overlay: &[u8], x: usize, out: &mut [u32])
+    requires { x + length out.old ≤ length overlay.now }
+    ensures bytes { (p : ℕ) → get_or overlay.now p 0 < 256 }
+    ensures laid { out.new ≡ changed (λ p under. overlaid_by colours.now (get_or overlay.now p 0) under) x out.old (length out.old) }
 {
-    let mut i = 0;
-    while i + 4 <= count {
-        let first = over(colours, overlay[x + i], out[i]);
-        let second = over(colours, overlay[x + (i + 1)], out[i + 1]);
-        let third = over(colours, overlay[x + (i + 2)], out[i + 2]);
-        let fourth = over(colours, overlay[x + (i + 3)], out[i + 3]);
-        put_four(out, i, first, second, third, fourth);
-        i += 4;
-    }
-    while i < count {
-        out[i] = over(colours, overlay[x + i], out[i]);
-        i += 1;
-    }
+    FourByFour::change(|i, under| over(colours, overlay[x + i], under), out);
 }
 
-// Overlay over a long run.
-fn lay_long(
-    entry: WindowEntry,
-    store: &[u32],
-    overlay: &[u8],
-    x: usize,
-    count: usize,
-    out: &mut [u32],
-)
-    requires { (length store.now ≡ store_length) × (x + count ≤ length overlay.now) × (count ≤ length out.old) }
-    ensures { Overlaid entry store.now overlay.now x out.old count out.new }
-{
-    let mut colours = [0; 256];
-    map_colours(store, OVERLAY_COLOURS, &mut colours);
-    correct(store, entry.bypass, &mut colours[..], 256);
-    lay_by(&colours, overlay, x, count, out);
-}
+impl Source<'_> {
+    // The colour of an overlay byte, or what is under it where the byte is 0.
+    #[tactic(auto, unfolding(crate::specs::Inner::overlaid_or))]
+    fn overlay_or(&self, byte: u8, under: u32) -> u32
+        ensures { result ≡ value (view_of self.now) (overlaid_or self.now.entry byte under) }
+    {
+        if byte == 0 {
+            return under;
+        }
+        self.overlay_shown(byte)
+    }
 
-// Overlay over a run.
-pub(crate) fn lay_overlay(
-    entry: WindowEntry,
-    store: &[u32],
-    overlay: &[u8],
-    x: usize,
-    count: usize,
-    out: &mut [u32],
-)
-    requires { (length store.now ≡ store_length) × (x + count ≤ length overlay.now) × (count ≤ length out.old) }
-    ensures { Overlaid entry store.now overlay.now x out.old count out.new }
-{
-    if OVERLAY_RUN <= count {
-        lay_long(entry, store, overlay, x, count, out);
-    } else {
-        lay_short(entry, store, overlay, x, count, out);
+    // Overlay over a short run: each colour is worked out for its pixel.
+    fn lay_short(&self, x: usize, out: &mut [u32])
+        requires { x + length out.old ≤ length self.now.overlay.now }
+        ensures { OverlayLaid self.now x out.old out.new }
+    {
+        OneByOne::change(|i, under| self.overlay_or(self.overlay[x + i], under), out);
+    }
+
+    // Overlay over a long run.
+    fn lay_long(&self, x: usize, out: &mut [u32])
+        requires { x + length out.old ≤ length self.now.overlay.now }
+        ensures { OverlayLaid self.now x out.old out.new }
+    {
+        let mut colours = [0; 256];
+        map_colours(self.store, OVERLAY_COLOURS, &mut colours);
+        correct(self.store, self.entry.bypass, &mut colours[..], 256);
+        lay_by(&colours, self.overlay, x, out);
+    }
+
+    // Overlay over a run.
+    pub(crate) fn lay_overlay(&self, x: usize, out: &mut [u32])
+        requires { x + length out.old ≤ length self.now.overlay.now }
+        ensures { OverlayLaid self.now x out.old out.new }
+    {
+        if OVERLAY_RUN <= out.len() {
+            self.lay_long(x, out);
+        } else {
+            self.lay_short(x, out);
+        }
     }
 }

@@ -7,20 +7,20 @@ ghost use Rattle.line_pixels.specs.Inner.{PlainLent, FilledPlain, gamma_red, gam
 use crate::bytes::wide;
 use crate::fours::put_four;
 use crate::sums::sum_rows;
-use chip_registers::GAMMA_MAP_START;
+use chip_registers::{GAMMA_MAP_START, STORE_WORDS};
 use line_colour::entry::WindowEntry;
 use line_formats::Format;
 
 // The gamma words that all values of a channel pick, split into channels, each where it stands in a colour. So many quarters of a value are the value widened.
 fn split_values(
-    store: &[u32],
+    store: &[u32; STORE_WORDS],
     values: usize,
     quarters: usize,
     reds: &mut [u32; 32],
     greens: &mut [u32; 32],
     blues: &mut [u32],
 )
-    requires { (length store.now ≡ store_length) × (values ≤ 32) × ((v : ℕ) → v < values → quarters * v / 4 < 256) × (length reds.old ≡ 32) × (length greens.old ≡ 32) × (values ≤ length blues.old) }
+    requires { (values ≤ 32) × ((v : ℕ) → v < values → quarters * v / 4 < 256) × (length reds.old ≡ 32) × (length greens.old ≡ 32) × (values ≤ length blues.old) }
     ensures { (reds.new ≡ filled (λ v. gamma_red store.now (quarters * v / 4)) 0 reds.old values) × (greens.new ≡ filled (λ v. gamma_green store.now (quarters * v / 4)) 0 greens.old values) × (blues.new ≡ filled (λ v. gamma_blue store.now (quarters * v / 4)) 0 blues.old values) }
 {
     let mut v = 0;
@@ -34,8 +34,14 @@ fn split_values(
 }
 
 // The final words of all pairs of red and green, and those of all blues.
-fn make_words(store: &[u32], values: usize, quarters: usize, pairs: &mut [u32], blues: &mut [u32])
-    requires { (length store.now ≡ store_length) × (1 ≤ values) × (values ≤ 32) × ((v : ℕ) → v < values → quarters * v / 4 < 256) × (length pairs.old ≡ values * values) × (length blues.old ≡ values) }
+fn make_words(
+    store: &[u32; STORE_WORDS],
+    values: usize,
+    quarters: usize,
+    pairs: &mut [u32],
+    blues: &mut [u32],
+)
+    requires { (1 ≤ values) × (values ≤ 32) × ((v : ℕ) → v < values → quarters * v / 4 < 256) × (length pairs.old ≡ values * values) × (length blues.old ≡ values) }
     ensures { PairedBy store.now values quarters pairs.new blues.new }
 {
     let mut reds = [0; 32];
@@ -129,7 +135,7 @@ pub(crate) fn is_paired(entry: WindowEntry) -> bool
 pub(crate) fn fill_paired(
     depth: u32,
     entry: WindowEntry,
-    store: &[u32],
+    store: &[u32; STORE_WORDS],
     normal: &[u8],
     x: usize,
     count: usize,

@@ -16,7 +16,7 @@ fn colours_apart(apart: usize, count: usize, colours: &mut [u32; 32])
 {
     let mut k = 0;
     while k < count {
-        colours[k] = Rgb332::colour((apart * k) as u32).word();
+        colours[k] = u32::from(Rgb332::colour((apart * k) as u32));
         k += 1;
     }
 }
@@ -40,7 +40,7 @@ pub(crate) fn run_332(apart: usize, normal: &[u8], first: usize, count: usize, o
 {
     let mut i = 0;
     while i < count {
-        out[i] = Rgb332::colour(wide(normal[first + apart * i])).word();
+        out[i] = u32::from(Rgb332::colour(wide(normal[first + apart * i])));
         i += 1;
     }
 }

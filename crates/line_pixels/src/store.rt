@@ -1,12 +1,12 @@
 // Words of the lent store.
-ghost use Rattle.std.specs.Prelude.{◌≡◌, length};
-ghost use Rattle.chip_registers.specs.Store.{store_place, Within, stored};
+ghost use Rattle.std.specs.Prelude.{◌≡◌};
+ghost use Rattle.chip_registers.specs.Store.{store_length, store_place, Within, stored};
 
-use chip_registers::{Register, StorePlace};
+use chip_registers::{Register, STORE_WORDS, StorePlace};
 
 // The kept bits of a register's word.
-pub(crate) fn stored(store: &[u32], register: Register) -> u32
-    requires { Within (length store.now) (store_place register) }
+pub(crate) fn stored(store: &[u32; STORE_WORDS], register: Register) -> u32
+    requires { Within store_length (store_place register) }
     ensures { result ≡ stored store.now register }
 {
     let place = register.store_place();

@@ -1,0 +1,10 @@
+use Rattle.std.proofs.Common.{ℕ, length}
+use Rattle.rules.proofs.Change.{Changing}
+use Rattle.line_pixels.specs.ByClosure.{IsChange}
+use Rattle.line_pixels.proofs.runs.OneByOneStepping.change.Given as goal
+
+-- whatever change says what the closure answers, the words before i have it
+abbrev pub invariant-loop-i : goal.invariant-loop-i
+invariant-loop-i g l =
+    (change : ℕ → ℕ → ℕ) → IsChange (goal.F-post g l.fn.colour) (length l.fn.words) change
+    → Changing change 0 (length l.fn.words) l.fn.words l.words l.i

@@ -1,0 +1,60 @@
+// Runs of words, each word by a closure that answers the colour at a number.
+ghost use Rattle.std.specs.Prelude.{ℕ, ◌<◌, ◌≡◌, length};
+ghost use Rattle.rules.specs.Lists.{filled, changed};
+ghost use Rattle.line_pixels.specs.ByClosure.{IsShown, IsChange};
+
+use crate::fours::put_four;
+
+// How a loop takes the words of a run: how many in a turn.
+pub(crate) trait Stepping {
+    // Each word is changed by its number and what it is.
+    fn change<F: Fn(usize, u32) -> u32>(colour: F, words: &mut [u32])
+        requires { (i word : ℕ) → i < length words.old → F.pre colour i word }
+        ensures { (change : ℕ → ℕ → ℕ) → IsChange (F.post colour) (length words.old) change → words.new ≡ changed change 0 words.old (length words.old) };
+
+    // Each word is filled by its number.
+    final fn fill<F: Fn(usize) -> u32>(colour: F, words: &mut [u32])
+        requires { (i : ℕ) → i < length words.old → F.pre colour i }
+        ensures { (shows : ℕ → ℕ) → IsShown (F.post colour) (length words.old) shows → words.new ≡ filled shows 0 words.old (length words.old) }
+    {
+        Self::change(
+            |i, _|
+                requires { F.pre colour i }
+            { colour(i) },
+            words,
+        );
+    }
+}
+
+// One word a turn: a loop of which the machine may take many turns at once.
+pub(crate) struct OneByOne;
+
+// Four words a turn, all four at hand before the first is stored.
+pub(crate) struct FourByFour;
+
+impl Stepping for OneByOne {
+    fn change<F: Fn(usize, u32) -> u32>(colour: F, words: &mut [u32]) {
+        for i in 0..words.len() {
+            words[i] = colour(i, words[i]);
+        }
+    }
+}
+
+impl Stepping for FourByFour {
+    fn change<F: Fn(usize, u32) -> u32>(colour: F, words: &mut [u32]) {
+        let fours = words.len() / 4;
+        for turn in 0..fours {
+            let i = 4 * turn;
+            let under = [words[i], words[i + 1], words[i + 2], words[i + 3]];
+            // In this order the machine looks two up at once.
+            let second = colour(i + 1, under[1]);
+            let third = colour(i + 2, under[2]);
+            let fourth = colour(i + 3, under[3]);
+            let first = colour(i, under[0]);
+            put_four(words, i, first, second, third, fourth);
+        }
+        for i in 4 * fours..words.len() {
+            words[i] = colour(i, words[i]);
+        }
+    }
+}
