@@ -1,12 +1,11 @@
 -- The colour of a pixel under a defined window entry. Nothing here refuses.
-use Rattle.std.specs.Prelude.{ℕ, ◌+◌, ◌≡◌, Bool, true, cond, ◌&&◌, eqb}
+use Rattle.std.specs.Prelude.{ℕ, ◌+◌, ◌≡◌, Bool, true, cond, ◌&&◌, eqb, Some}
 use Rattle.rules.specs.Rule.{Rule, done, get, ◌>>=◌}
 use Rattle.words.specs.Channels.{channels_of, word_of}
 use Rattle.line_formats.specs.Table.{widths_of}
 use Rattle.line_colour.specs.Entry.{decoded}
 use Rattle.line_colour.specs.Shown.{shown_of}
 use Rattle.line_colour.specs.declared.entry.WindowEntry.{WindowEntry}
-use Rattle.line_colour.specs.declared.entry.Decoded.TheVariants.{Defined}
 use Rattle.line_colour.specs.declared.entry.Shown.{Shown}
 use Rattle.line_colour.specs.declared.entry.Shown.TheVariants.{MapEntry, Colour}
 use Rattle.line_pixels.specs.Cells.{Channel, in_red, in_green, in_blue, channel_in, PixelCell, cursor_colour, overlay_byte, sample, map_entry, gamma}
@@ -15,7 +14,7 @@ use Rattle.line_pixels.specs.declared.Screen.{Screen}
 
 -- an entry is what some window entry says at a depth
 abbrev pub SaidAt : ℕ → WindowEntry → Type 0
-SaidAt depth entry = (word : ℕ) × (decoded word depth ≡ Defined entry)
+SaidAt depth entry = (word : ℕ) × (decoded word depth ≡ Some entry)
 
 -- a cursor colour is shown as it is stored, whatever the screen and the window entry under the cursor say (CHIP 6.4)
 abbrev pub cursor_skips_gamma : Screen → WindowEntry → Bool

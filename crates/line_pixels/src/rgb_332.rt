@@ -7,7 +7,7 @@ ghost use Rattle.line_formats.specs.Table.{colour_in_format};
 
 use crate::bytes::wide;
 use crate::sums::sum_rows;
-use line_formats::{Format, Rgb332};
+use line_formats::{Format, Rgb332, RgbFormat};
 
 // The colours of so many samples from 0 on, each so much above the one before.
 fn colours_apart(apart: usize, count: usize, colours: &mut [u32; 32])

@@ -2,7 +2,7 @@
 ghost use Rattle.std.specs.Prelude.{◌≡◌};
 ghost use Rattle.chip_registers.specs.Store.{store_length, store_place, Within, stored};
 
-use chip_registers::{Register, STORE_WORDS, StorePlace};
+use chip_registers::{Register, STORE_WORDS};
 
 // The kept bits of a register's word.
 pub(crate) fn stored(store: &[u32; STORE_WORDS], register: Register) -> u32
@@ -11,8 +11,8 @@ pub(crate) fn stored(store: &[u32; STORE_WORDS], register: Register) -> u32
 {
     let place = register.store_place();
     match place {
-        StorePlace::At(at) => register.kept(store[at]),
+        Some(at) => register.kept(store[at]),
         // Not taken: the register stands in the store.
-        StorePlace::Nowhere => 0,
+        None => 0,
     }
 }
