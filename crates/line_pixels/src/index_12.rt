@@ -5,7 +5,6 @@ ghost use Rattle.line_pixels.specs.Source.{PlainReaches, PlainDrawn};
 
 use crate::bytes::le16;
 use crate::correction::GammaTables;
-use crate::held::fill_held;
 use crate::layers::mapped;
 use crate::runs::FourByFour;
 use crate::source::Source;
@@ -50,14 +49,7 @@ impl Source<'_> {
         ensures { PlainDrawn self.now x out.old out.new }
     {
         let store = self.store;
-        let normal = self.normal;
-        fill_held::<FourByFour, 2, _>(
-            self.screen.depth,
-            self.entry.low,
-            x,
-            |at| colour_at(store, normal, at),
-            out,
-        );
+        self.fill_held::<FourByFour, 2, _>(x, |normal, at| colour_at(store, normal, at), out);
     }
 
     // A plain run of 12-bit indices through gamma.
@@ -66,13 +58,10 @@ impl Source<'_> {
         ensures { PlainDrawn self.now x out.old out.new }
     {
         let store = self.store;
-        let normal = self.normal;
         let tables = GammaTables::of(store);
-        fill_held::<FourByFour, 2, _>(
-            self.screen.depth,
-            self.entry.low,
+        self.fill_held::<FourByFour, 2, _>(
             x,
-            |at| tables.through(colour_at(store, normal, at)),
+            |normal, at| tables.through(colour_at(store, normal, at)),
             out,
         );
     }

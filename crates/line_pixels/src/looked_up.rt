@@ -6,7 +6,6 @@ ghost use Rattle.line_pixels.specs.Inner.{OverStore};
 ghost use Rattle.line_pixels.specs.Source.{PlainReaches, PlainDrawn};
 
 use crate::correction::correct;
-use crate::held::fill_held;
 use crate::mapped::map_colours;
 use crate::rgb_332::colours_332;
 use crate::runs::FourByFour;
@@ -41,16 +40,9 @@ impl Source<'_> {
         requires { PlainReaches self.now (x + length out.old) × ((self.now.entry.format ≡ Format.Index8) ⊎ (self.now.entry.format ≡ Format.Rgb332)) }
         ensures { PlainDrawn self.now x out.old out.new }
     {
-        let normal = self.normal;
         let mut colours = [0; 256];
         self.normal_colours(&mut colours);
         correct(self.store, self.entry.bypass, &mut colours);
-        fill_held::<FourByFour, 1, _>(
-            self.screen.depth,
-            self.entry.low,
-            x,
-            |at| colour_at(&colours, normal, at),
-            out,
-        );
+        self.fill_held::<FourByFour, 1, _>(x, |normal, at| colour_at(&colours, normal, at), out);
     }
 }

@@ -3,7 +3,6 @@ ghost use Rattle.std.specs.Prelude.{ℕ, ◌+◌, ◌*◌, ◌/◌, ◌%◌, ◌
 ghost use Rattle.line_pixels.specs.Inner.{PairedBy, PairsFit, paired_444, paired_555};
 ghost use Rattle.line_pixels.specs.Source.{PlainReaches, PlainDrawn};
 
-use crate::held::fill_held;
 use crate::runs::{FourByFour, OneByOne, Stepping};
 use crate::source::Source;
 use crate::sums::sum_rows;
@@ -67,20 +66,17 @@ impl Source<'_> {
         requires { PlainReaches self.now (x + length out.old) × (self.now.entry.bypass ≡ false) × ((self.now.entry.format ≡ Format.Rgb444) ⊎ (self.now.entry.format ≡ Format.Rgb555)) }
         ensures { PlainDrawn self.now x out.old out.new }
     {
-        let depth = self.screen.depth;
-        let low = self.entry.low;
-        let normal = self.normal;
         match self.entry.format {
             Format::Rgb444 => {
                 // 17 times a value is 68 quarters of it.
                 let words = FinalWords::of(self.store, 68);
-                fill_held::<FourByFour, 2, _>(depth, low, x, |at| colour_444(&words, normal, at), out);
+                self.fill_held::<FourByFour, 2, _>(x, |normal, at| colour_444(&words, normal, at), out);
             }
             // RGB 5-5-5 is all that is left.
             Format::Rgb555 | Format::Index8 | Format::Index12 | Format::Rgb332 | Format::Rgb888 => {
                 // 8 times a value and a quarter of it are 33 quarters.
                 let words = FinalWords::of(self.store, 33);
-                fill_held::<FourByFour, 2, _>(depth, low, x, |at| colour_555(&words, normal, at), out);
+                self.fill_held::<FourByFour, 2, _>(x, |normal, at| colour_555(&words, normal, at), out);
             }
         }
     }

@@ -7,7 +7,6 @@ ghost use Rattle.line_pixels.specs.Colour.{normal_at};
 ghost use Rattle.line_pixels.specs.Source.{PlainReaches, Drawn};
 
 use crate::bytes::{le16, le32};
-use crate::held::fill_held;
 use crate::rgb_332::colour_332;
 use crate::runs::OneByOne;
 use crate::source::Source;
@@ -75,22 +74,19 @@ impl Source<'_> {
         requires { PlainReaches self.now (x + length out.old) × ((self.now.entry.format ≡ Format.Rgb332) ⊎ (self.now.entry.format ≡ Format.Rgb444) ⊎ (self.now.entry.format ≡ Format.Rgb555) ⊎ (self.now.entry.format ≡ Format.Rgb888)) }
         ensures { Drawn self.now (normal_at self.now.screen.depth self.now.entry) x out.old out.new }
     {
-        let depth = self.screen.depth;
-        let low = self.entry.low;
-        let normal = self.normal;
         match self.entry.format {
             Format::Rgb332 => {
-                fill_held::<OneByOne, 1, _>(depth, low, x, |at| colour_332(normal, at), out);
+                self.fill_held::<OneByOne, 1, _>(x, colour_332, out);
             }
             Format::Rgb444 => {
-                fill_held::<OneByOne, 2, _>(depth, low, x, |at| colour_444(normal, at), out);
+                self.fill_held::<OneByOne, 2, _>(x, colour_444, out);
             }
             Format::Rgb555 => {
-                fill_held::<OneByOne, 2, _>(depth, low, x, |at| colour_555(normal, at), out);
+                self.fill_held::<OneByOne, 2, _>(x, colour_555, out);
             }
             // RGB 8-8-8 is all that is left.
             Format::Rgb888 | Format::Index8 | Format::Index12 => {
-                fill_held::<OneByOne, 4, _>(depth, low, x, |at| colour_888(normal, at), out);
+                self.fill_held::<OneByOne, 4, _>(x, colour_888, out);
             }
         }
     }
