@@ -1,12 +1,8 @@
--- `line_pixels::rgb::word_555` meets its contract: three channels of 5 bits, all widened at once. Assumes nothing.
-use Prim.Native.Nat.{ℕ, ◌+◌, ◌*◌, ◌/◌, ◌%◌, ◌<◌}
-use mathlib.Core.Path.{◌≡◌, sym, ◌∙◌}
-use native.Mathlib.Omega.{arith}
-use borrow.Author.Rules.{rules}
+-- Three channels of 5 bits, all widened at once.
+use Rattle.std.proofs.Common.{ℕ, ◌+◌, ◌*◌, ◌/◌, ◌%◌, ◌<◌, ◌≡◌, ◌∙◌, sym, arith}
 use Rattle.line_formats.proofs.Widening.{widened_5}
 use Rattle.line_pixels.proofs.RgbRuns.{red_555, green_555, blue_555, word_by}
-use Rattle.line_pixels.proofs.rgb.word_555.Statement.{statement}
-use Rattle.line_pixels.proofs.rgb.word_555.Tie as tie
+use Rattle.line_pixels.proofs.rgb.word_555.Goals as goal
 
 module _ (half : ℕ) where
   -- of two bytes loaded as one number, the low bits are those of the first
@@ -41,23 +37,14 @@ module _ (red green blue : ℕ) (red_below : red < 32) (green_below : green < 32
       ≡ (8 * red + red / 4) * 65536 + (8 * green + green / 4) * 256 + (8 * blue + blue / 4)
   at_once = rw (top_of_red, top_of_green, top_of_blue) (omega arith)
 
-spread_555_requires : tie.Need-spread_555-requires
-spread_555_requires c κs = search rules
-
-widened_5_requires : tie.Need-widened_5-requires
-widened_5_requires c κs = search rules
-
-returns : tie.Need-returns
+pub returns : goal.returns
 returns c =
     let half = c.args.half in
     let low = half % 256 in
     let high = half / 256 in
-    let below : high < 256 = omega (arith, c.requires) in
+    let below : high < 256 = omega arith in
     rw (c.widened_5.ensures, c.spread_555.ensures)
-    (at_once (half / 256 % 32) (half % 4 * 8 + half / 8192) (half / 4 % 32) (omega arith) (omega (arith, c.requires)) (omega arith)
+    (at_once (half / 256 % 32) (half % 4 * 8 + half / 8192) (half / 4 % 32) (omega arith) (omega arith) (omega arith)
     ∙ sym
     (word_by 5 (λ (v : ℕ). 8 * v + v / 4) widened_5 (low * 256 + high)
     ∙ rw (red_555 low high below, green_555 low high below, blue_555 low high below, low_loaded half, high_loaded half, between_loaded half)))
-
-pub word_555_spec : {M : Type 1} → statement M
-word_555_spec = tie.close (tie.spec spread_555_requires widened_5_requires returns)
