@@ -24,12 +24,12 @@ use Rattle.line_pixels.proofs.LayersCases.{plain_of_shown}
 module _ (store : List ℕ) where
   -- colours that have gone through gamma
   pub colours_corrected : (bypass : Bool) (rule : ℕ → Rule ⊥ PixelCell ℕ) (made colours : List ℕ) → length made ≡ 256
-      → ((k : ℕ) → k < 256 → OverStore store (rule k) (get_or made k 0)) → Corrected store bypass made 256 colours
+      → ((k : ℕ) → k < 256 → OverStore store (rule k) (get_or made k 0)) → Corrected store bypass made colours
       → (k : ℕ) → k < 256 → OverStore store (rule k >>= through_gamma bypass) (get_or colours k 0)
   colours_corrected bypass rule made colours long is corrected k below normal overlay =
       let memory = pixel_view store normal overlay in
       ap (λ (list : List ℕ). get_or list k 0) (corrected normal overlay)
-      ∙ (changed_at (λ _ word. value memory (through_gamma bypass word)) 0 256 0 made k below (rw long (le_refl 256))
+      ∙ (changed_at (λ _ word. value memory (through_gamma bypass word)) 0 (length made) 0 made k (rw long below) (le_refl (length made))
       ∙ (ap (λ (word : ℕ). value memory (through_gamma bypass word)) (is k below normal overlay) ∙ sym (value_then memory (rule k) (through_gamma bypass))))
 
 -- the colour of an overlay byte is looked up among those of all bytes

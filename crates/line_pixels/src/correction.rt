@@ -24,7 +24,10 @@ impl GammaTables {
         let mut red = [0; 256];
         let mut green = [0; 256];
         let mut blue = [0; 256];
-        OneByOne::fill(|k| store[GAMMA_MAP_START + k] / 65536 % 256 * 65536, &mut red);
+        OneByOne::fill(
+            |k| store[GAMMA_MAP_START + k] / 65536 % 256 * 65536,
+            &mut red,
+        );
         OneByOne::fill(|k| store[GAMMA_MAP_START + k] / 256 % 256 * 256, &mut green);
         OneByOne::fill(|k| store[GAMMA_MAP_START + k] % 256, &mut blue);
         GammaTables { red, green, blue }

@@ -28,9 +28,18 @@ impl<const VALUES: usize, const PAIRS: usize> FinalWords<VALUES, PAIRS> {
         let mut greens = [0; VALUES];
         let mut blues = [0; VALUES];
         let mut pairs = [0; PAIRS];
-        OneByOne::fill(|v| store[GAMMA_MAP_START + quarters * v / 4] / 65536 % 256 * 65536, &mut reds);
-        OneByOne::fill(|v| store[GAMMA_MAP_START + quarters * v / 4] / 256 % 256 * 256, &mut greens);
-        OneByOne::fill(|v| store[GAMMA_MAP_START + quarters * v / 4] % 256, &mut blues);
+        OneByOne::fill(
+            |v| store[GAMMA_MAP_START + quarters * v / 4] / 65536 % 256 * 65536,
+            &mut reds,
+        );
+        OneByOne::fill(
+            |v| store[GAMMA_MAP_START + quarters * v / 4] / 256 % 256 * 256,
+            &mut greens,
+        );
+        OneByOne::fill(
+            |v| store[GAMMA_MAP_START + quarters * v / 4] % 256,
+            &mut blues,
+        );
         sum_rows(&reds, &greens, &mut pairs);
         FinalWords { pairs, blues }
     }
@@ -70,13 +79,21 @@ impl Source<'_> {
             Format::Rgb444 => {
                 // 17 times a value is 68 quarters of it.
                 let words = FinalWords::of(self.store, 68);
-                self.fill_held::<FourByFour, 2, _>(x, |normal, at| colour_444(&words, normal, at), out);
+                self.fill_held::<FourByFour, 2, _>(
+                    x,
+                    |normal, at| colour_444(&words, normal, at),
+                    out,
+                );
             }
             // RGB 5-5-5 is all that is left.
             Format::Rgb555 | Format::Index8 | Format::Index12 | Format::Rgb332 | Format::Rgb888 => {
                 // 8 times a value and a quarter of it are 33 quarters.
                 let words = FinalWords::of(self.store, 33);
-                self.fill_held::<FourByFour, 2, _>(x, |normal, at| colour_555(&words, normal, at), out);
+                self.fill_held::<FourByFour, 2, _>(
+                    x,
+                    |normal, at| colour_555(&words, normal, at),
+                    out,
+                );
             }
         }
     }
