@@ -6,7 +6,7 @@ use mathlib.Core.List.{List}
 use native.Mathlib.Nat.{mod-lt}
 use native.Mathlib.Omega.{arith}
 use lib.Dec.{lit<}
-use lib.ListN.{get_or, take, drop}
+use lib.ListN.{length, get_or, take, drop}
 use lib.Seq.{get_or-take, get_or-drop}
 use Rattle.rules.specs.Rule.{value}
 use Rattle.rules.proofs.Change.{changed_none}
@@ -44,11 +44,11 @@ unfolding through_gamma
 gamma_skipped memory word e = rw e
 
 -- words that skip gamma stay as they are
-pub words_skipped : (store before : List ℕ) (count : ℕ) {skips : Bool} → skips ≡ true → Corrected store skips before count before
-words_skipped store before count {skips} e =
+pub words_skipped : (store before : List ℕ) {skips : Bool} → skips ≡ true → Corrected store skips before before
+words_skipped store before {skips} e =
     λ normal overlay.
     let memory = pixel_view store normal overlay in
-    sym (changed_none (λ _ word. value memory (through_gamma skips word)) 0 count 0 before (λ i below. sym (gamma_skipped memory (get_or before i 0) e)))
+    sym (changed_none (λ _ word. value memory (through_gamma skips word)) 0 (length before) 0 before (λ i below. sym (gamma_skipped memory (get_or before i 0) e)))
 
 -- a colour that doesn't skip gamma is corrected by the gamma words of the store
 pub gamma_applied : (store normal overlay : List ℕ) (word : ℕ) {skips : Bool} → skips ≡ false

@@ -7,11 +7,11 @@ use native.Mathlib.Nat.{div-one, mod-lt}
 use native.Mathlib.Omega.{arith}
 use lib.Dec.{lit<}
 use Rattle.rules.specs.Rule.{value}
-use Rattle.rules.specs.Lists.{changed}
-use Rattle.rules.proofs.Change.{changed_same}
+use Rattle.rules.specs.Lists.{filled}
+use Rattle.rules.proofs.Fill.{looked_up}
 use Rattle.line_pixels.specs.Cells.{in_red, in_green, in_blue, gamma, pixel_view}
 use Rattle.line_pixels.specs.Colour.{through_gamma}
-use Rattle.line_pixels.specs.Inner.{Corrected, gamma_red, gamma_green, gamma_blue, SplitBy, TablesFit, by_tables}
+use Rattle.line_pixels.specs.Inner.{gamma_red, gamma_green, gamma_blue, SplitBy, TablesFit, by_tables}
 use Rattle.line_pixels.proofs.CellsInMemory.{gamma_red_in_store, gamma_green_in_store, gamma_blue_in_store}
 
 -- what is left of a division by 256 is the number of a word of a table
@@ -32,6 +32,15 @@ gamma_sum store normal overlay word =
     = sym (gamma_blue_in_store store normal overlay (word % 256)) ∙ ap (λ (n : ℕ). memory (gamma in_blue (n % 256))) (sym (div-one word)) in
     rw (r, g, b)
 
+-- tables that are filled with the channels of the gamma words are these split
+pub split_made : (store : List ℕ) {red green blue : List ℕ} (red₀ green₀ blue₀ : List ℕ) → red ≡ filled (gamma_red store) 0 red₀ 256 → green ≡ filled (gamma_green store) 0 green₀ 256
+    → blue ≡ filled (gamma_blue store) 0 blue₀ 256 → SplitBy store red green blue
+split_made store red₀ green₀ blue₀ reds greens blues k below = record {
+  in_red = looked_up (gamma_red store) red₀ 256 k 0 reds below;
+  in_green = looked_up (gamma_green store) green₀ 256 k 0 greens below;
+  in_blue = looked_up (gamma_blue store) blue₀ 256 k 0 blues below;
+}
+
 module _ {store red green blue : List ℕ} (split : SplitBy store red green blue) where
   -- no word of the tables is more than its channel
   pub tables_fit : TablesFit red green blue
@@ -42,10 +51,3 @@ module _ {store red green blue : List ℕ} (split : SplitBy store red green blue
   tables_correct normal overlay word =
       rw ((split (word / 65536 % 256) (in_table (word / 65536))).in_red, (split (word / 256 % 256) (in_table (word / 256))).in_green, (split (word % 256) (in_table word)).in_blue)
       (gamma_sum store normal overlay word)
-
-  -- words that went through the tables went through gamma
-  pub tables_corrected : (before : List ℕ) (count : ℕ) {after : List ℕ} → after ≡ changed (λ _ word. by_tables red green blue word) 0 before count → Corrected store false before count after
-  tables_corrected before count is =
-      λ normal overlay.
-      is
-      ∙ changed_same (λ _ word. by_tables red green blue word) (λ _ word. value (pixel_view store normal overlay) (through_gamma false word)) (λ _ word. tables_correct normal overlay word) 0 before count

@@ -1,10 +1,13 @@
 -- Which bytes of the normal row a sample stands in: as many of the pixel's as hold its bits, those that end above the sample's lowest bit. Assumes nothing.
 use Prim.Native.Nat.{ℕ, zero, suc, ◌+◌, ◌-◌, ◌*◌, ◌/◌, ◌%◌, ◌^◌, ◌≤◌, ◌<◌}
 use mathlib.Core.Path.{◌≡◌, refl, sym, ap, ◌∙◌}
+use mathlib.Core.Bool.{Bool, true, false, cond}
 use mathlib.Core.Logic.{⊎_elim}
 use mathlib.Core.List.{List}
 use native.Mathlib.Nat.{add-zero, add-suc, div-one, mod-one, add-mul, mul_comm, one-mul}
 use native.Mathlib.Omega.{arith}
+use borrow.Author.Tests.{leb-true, leb-false}
+use lib.Dec.{leb}
 use lib.ListN.{length, get_or}
 use lib.Pow.{shr-shr, mod-pow-add, mod-mod-pow}
 use Rattle.words.specs.Field.{bits}
@@ -15,6 +18,7 @@ use Rattle.line_colour.specs.declared.entry.WindowEntry.{WindowEntry}
 use Rattle.line_colour.proofs.Defined.{Says}
 use Rattle.line_pixels.specs.Cells.{pixel_word}
 use Rattle.line_pixels.specs.Inner.{RowLent}
+use Rattle.line_pixels.specs.SamplePlace.{held_by, place_at}
 use Rattle.line_pixels.proofs.Rows.{row_before}
 
 -- each element of a list is a byte
@@ -67,60 +71,64 @@ whole_bytes says =
 bytes_apart : (n b x i : ℕ) → (x + i) * n + b ≡ n * x + b + n * i
 bytes_apart n b x i = rw (mul_comm n x, mul_comm n i, add-mul x i n) (omega arith)
 
--- where the samples of the pixels from x on stand: a pixel takes n bytes, and the first one's sample is held by the m bytes from `first` on
-pub record HeldBy (depth : ℕ) (entry : WindowEntry) (x n m first : ℕ) : Type 0 where
-  pub bytes : depth / 8 ≡ n
-  pub starts : first ≡ n * x + (n - m) - entry.low / 8
+-- a sample is held by so many bytes of its pixel
+pub record HeldBy (depth : ℕ) (entry : WindowEntry) (m : ℕ) : Type 0 where
+  pub some : 1 ≤ m
   pub holds : (widths_of entry.format).bits ≤ 8 * m
   pub within : entry.low + 8 * m ≤ depth
 
-module _ {depth : ℕ} {entry : WindowEntry} (x : ℕ) (says : Says depth entry) where
-  -- a sample of 8 bits is held by one byte
-  pub held_by_one : (n : ℕ) → (widths_of entry.format).bits ≡ 8 → depth / 8 ≡ n → HeldBy depth entry x n 1 (n * x + (n - 1) - entry.low / 8)
-  held_by_one n eight bytes = record { bytes = bytes; starts = refl; holds = omega arith; within = omega (arith, says.within) }
+-- at depth 32 pixels stand four bytes apart, and else two
+pub apart_two : {depth : ℕ} {entry : WindowEntry} → Says depth entry → (depth / 8 ≡ 4 → ⊥) → depth / 8 ≡ 2
+apart_two says not = ⊎_elim (λ at. omega arith) (λ at. absurd (not (omega arith))) says.at_depth
 
-  -- at depth 32 a sample that fits half a pixel is held by two of its four bytes
-  pub held_by_half : (widths_of entry.format).bits ≤ 16 → depth ≡ 32 → HeldBy depth entry x 4 2 (4 * x + 2 - entry.low / 8)
-  held_by_half fits is =
-      record { bytes = omega arith; starts = refl; holds = fits; within = ⊎_elim (λ zero. omega arith) (λ half. omega arith) says.low_is }
+module _ {depth : ℕ} {entry : WindowEntry} (says : Says depth entry) where
+  -- the bits of a sample
+  abbrev bits_used : ℕ
+  bits_used = (widths_of entry.format).bits
 
-  -- at depth 16 one that fits no half is held by both bytes
-  pub held_by_two : 8 < (widths_of entry.format).bits → (widths_of entry.format).bits ≤ 16 → depth ≡ 16 → HeldBy depth entry x 2 2 (2 * x)
-  held_by_two above fits is =
-      let low : entry.low ≡ 0 = ⊎_elim (λ zero. zero) (λ half. omega arith) says.low_is in
-      record { bytes = omega arith; starts = omega arith; holds = fits; within = omega arith }
+  -- by whether they fit one byte or two
+  held_as : {m : ℕ} (one two : Bool) → leb bits_used 8 ≡ one → leb bits_used 16 ≡ two → cond one 1 (cond two 2 4) ≡ m → HeldBy depth entry m
+  held_as true two in_one in_two is =
+      record {
+        some = omega arith;
+        holds = omega (arith, leb-true bits_used 8 in_one);
+        within = ⊎_elim (λ at. ⊎_elim (λ zero. omega arith) (λ half. omega arith) says.low_is) (λ at. ⊎_elim (λ zero. omega arith) (λ half. omega arith) says.low_is) says.at_depth;
+      }
+  held_as false true in_one in_two is =
+      let above = leb-false bits_used 8 in_one in
+      record {
+        some = omega arith;
+        holds = omega (arith, leb-true bits_used 16 in_two);
+        within =
+            ⊎_elim
+            (λ at. ⊎_elim (λ zero. omega arith) (λ half. omega (arith, above, says.within)) says.low_is)
+            (λ at. ⊎_elim (λ zero. omega arith) (λ half. omega arith) says.low_is)
+            says.at_depth;
+      }
+  held_as false false in_one in_two is =
+      let above = leb-false bits_used 16 in_two in
+      record {
+        some = omega arith;
+        holds = ⊎_elim (λ at. omega (arith, says.within)) (λ at. omega (arith, says.within)) says.at_depth;
+        within =
+            ⊎_elim
+            (λ at. omega (arith, above, says.within))
+            (λ at. ⊎_elim (λ zero. omega arith) (λ half. omega (arith, above, says.within)) says.low_is)
+            says.at_depth;
+      }
 
-  -- at either depth a sample that fits two bytes and no less is held by two
-  pub held_by_pair : 8 < (widths_of entry.format).bits → (widths_of entry.format).bits ≤ 16
-      → HeldBy depth entry x (depth / 8) 2 (depth / 8 * x + (depth / 8 - 2) - entry.low / 8)
-  held_by_pair above fits =
-      let within : entry.low + 16 ≤ depth =
-      ⊎_elim
-      (λ at. ⊎_elim (λ zero. omega arith) (λ half. omega (arith, says.within)) says.low_is)
-      (λ at. ⊎_elim (λ zero. omega arith) (λ half. omega arith) says.low_is)
-      says.at_depth in
-      record { bytes = refl; starts = refl; holds = fits; within = within }
+  -- a sample is held by as many bytes, of one, two and four, as its bits need
+  pub held_of : {m : ℕ} → held_by entry ≡ m → HeldBy depth entry m
+  held_of is = held_as (leb bits_used 8) (leb bits_used 16) refl refl is
 
-  -- at depth 32 one that fits no half is held by all four
-  pub held_by_four : 16 < (widths_of entry.format).bits → depth ≡ 32 → HeldBy depth entry x 4 4 (4 * x)
-  held_by_four above is =
-      let low : entry.low ≡ 0 = ⊎_elim (λ zero. zero) (λ half. omega arith) says.low_is in
-      record { bytes = omega arith; starts = omega arith; holds = omega arith; within = omega arith }
-
-module _ {depth : ℕ} {entry : WindowEntry} (normal : List ℕ) {x n m first : ℕ} (held : HeldBy depth entry x n m first) where
-  -- the normal row has the pixels before a run
-  pub before_in_row : (count : ℕ) → RowLent depth entry normal (x + count) → n * x ≤ length normal
-  before_in_row count lent =
-      let ends : (x + count) * n ≤ length normal = rw held.bytes at lent.1 in
-      let parts : (x + count) * n ≡ n * x + count * n = rw (add-mul x count n, mul_comm x n) in
-      omega arith
-
-  -- the normal row has the bytes that hold the samples of a run
-  pub held_in_row : (count : ℕ) → RowLent depth entry normal (x + count) → (i : ℕ) → i < count → first + n * i + m ≤ length normal
-  held_in_row count lent i more =
-      let ends : (x + i + 1) * n ≤ length normal = rw held.bytes at (row_before depth entry normal lent {before = x + i + 1} (omega (arith, more))) in
-      let parts : (x + i + 1) * n ≡ n * x + n * i + n = rw (add-mul (x + i) 1 n, add-mul x i n, mul_comm x n, mul_comm i n, one-mul n) in
-      omega (arith, held.bytes, held.starts, held.within)
+-- the normal row has the bytes that hold the samples of a run
+pub held_in_row : {depth : ℕ} {entry : WindowEntry} {m : ℕ} (normal : List ℕ) (x count : ℕ) → HeldBy depth entry m → RowLent depth entry normal (x + count)
+    → (i : ℕ) → i < count → place_at depth entry.low m x i + m ≤ length normal
+held_in_row {depth} {entry} normal x count held lent i more =
+    let n = depth / 8 in
+    let ends : (x + i + 1) * n ≤ length normal = row_before depth entry normal lent {before = x + i + 1} (omega (arith, more)) in
+    let parts : (x + i + 1) * n ≡ n * x + n * i + n = rw (add-mul (x + i) 1 n, add-mul x i n, mul_comm x n, mul_comm i n, one-mul n) in
+    omega (arith, held.within)
 
 module _ (depth : ℕ) (entry : WindowEntry) (normal : List ℕ) (says : Says depth entry) (all : AllBytes normal) where
   -- the bits of a sample in its format
@@ -140,17 +148,17 @@ module _ (depth : ℕ) (entry : WindowEntry) (normal : List ℕ) (says : Says de
       ∙ (ap (λ (z : ℕ). bits (big_endian normal at (a + m + k)) z used) low ∙ bits_in_bytes normal all at a m k used fits)
 
   -- each sample of a run is the low bits of the bytes that hold it
-  pub sample_in_bytes : {x n m first : ℕ} → HeldBy depth entry x n m first → (i : ℕ)
-      → sample_of entry (pixel_word depth normal (x + i)) ≡ bits (big_endian normal (first + n * i) m) 0 used
-  sample_in_bytes {x} {n} {m} {first} held i =
-      let place : (x + i) * (depth / 8) + (depth / 8 - m - entry.low / 8) ≡ first + n * i =
-      rw (held.bytes, bytes_apart n (n - m - entry.low / 8) x i) (omega (arith, held.bytes, held.starts, held.within)) in
+  pub sample_in_bytes : {m : ℕ} → HeldBy depth entry m → (x i : ℕ)
+      → sample_of entry (pixel_word depth normal (x + i)) ≡ bits (big_endian normal (place_at depth entry.low m x i) m) 0 used
+  sample_in_bytes {m} held x i =
+      let n = depth / 8 in
+      let place : (x + i) * n + (n - m - entry.low / 8) ≡ place_at depth entry.low m x i =
+      rw (bytes_apart n (n - m - entry.low / 8) x i) (omega (arith, held.within)) in
       sample_in_pixel m (x + i) held.holds held.within ∙ ap (λ (z : ℕ). bits (big_endian normal z m) 0 used) place
 
   -- a sample of 8 bits is a byte
-  pub sample_is_byte : (n x i : ℕ) {first : ℕ} → depth / 8 ≡ n → first ≡ n * x + (n - 1) - entry.low / 8 → used ≡ 8
-      → sample_of entry (pixel_word depth normal (x + i)) ≡ get_or normal (first + n * i) 0
-  sample_is_byte n x i {first} bytes starts eight =
-      let place = first + n * i in
-      let held : HeldBy depth entry x n 1 first = rw starts (held_by_one x says n eight bytes) in
-      sample_in_bytes held i ∙ rw eight (one_byte normal place (all place))
+  pub sample_is_byte : (x i : ℕ) → used ≡ 8 → sample_of entry (pixel_word depth normal (x + i)) ≡ get_or normal (place_at depth entry.low 1 x i) 0
+  sample_is_byte x i eight =
+      let place = place_at depth entry.low 1 x i in
+      let held : HeldBy depth entry 1 = held_of says (rw eight) in
+      sample_in_bytes held x i ∙ rw eight (one_byte normal place (all place))

@@ -1,16 +1,14 @@
--- Runs in RGB: the channels in two bytes, a colour's word in closed form, one pixel on in the loops, and why the colours of the bytes that hold the samples are the normal colours. Assumes nothing.
+-- Runs in RGB: the channels in two bytes, a colour's word in closed form, and why the colours of the bytes that hold the samples are the normal colours. Assumes nothing.
 use Prim.Native.Nat.{ℕ, ◌+◌, ◌*◌, ◌/◌, ◌%◌, ◌^◌, ◌≤◌, ◌<◌}
 use mathlib.Core.Path.{◌≡◌, sym, ap, ◌∙◌}
 use mathlib.Core.Logic.{◌⊎◌}
 use mathlib.Core.List.{List}
-use native.Mathlib.Nat.{zero-add, div-one, mod-lt}
+use native.Mathlib.Nat.{div-one, mod-lt}
 use native.Mathlib.Omega.{arith}
 use lib.Dec.{lit≤}
-use lib.ListN.{get_or, set}
+use lib.ListN.{get_or}
 use lib.Pow.{pow_pos}
 use Rattle.rules.specs.Rule.{value}
-use Rattle.rules.specs.Lists.{filled}
-use Rattle.rules.proofs.Fill.{Filling, fill_next, filled_same, filled_from}
 use Rattle.words.specs.Field.{bits}
 use Rattle.words.specs.Bytes.{big_endian}
 use Rattle.words.specs.Channels.{word_of}
@@ -25,8 +23,8 @@ use Rattle.line_colour.specs.declared.entry.WindowEntry.{WindowEntry}
 use Rattle.line_colour.proofs.Defined.{Says}
 use Rattle.line_pixels.specs.Cells.{pixel_word, pixel_view}
 use Rattle.line_pixels.specs.Colour.{normal_at}
-use Rattle.line_pixels.specs.Inner.{FilledNormal}
-use Rattle.line_pixels.proofs.Halves.{AllBytes, HeldBy, sample_in_bytes}
+use Rattle.line_pixels.specs.SamplePlace.{held_by, place_at}
+use Rattle.line_pixels.proofs.Halves.{AllBytes, held_of, sample_in_bytes}
 use Rattle.line_pixels.proofs.LayersCases.{normal_of_colour, shown_rgb}
 
 module _ (low high : ℕ) (below : high < 256) where
@@ -76,23 +74,6 @@ swapped bytes at {half} two =
     let high : half / 256 ≡ get_or bytes (at + 1) 0 = omega arith in
     rw (low, high) (sym (big_endian_2 bytes at))
 
-module _ (format : Format) (normal : List ℕ) (m first apart : ℕ) where
-  -- the colours before i are filled, each of m bytes, which stand so many bytes apart
-  abbrev pub FillingRgb : ℕ → List ℕ → List ℕ → ℕ → Type 0
-  FillingRgb count before now i = Filling (λ k. word_of (colour_in_format format (big_endian normal (first + apart * k) m))) 0 count before now i
-
-  -- one colour on
-  pub rgb_next : {count i word : ℕ} {before now : List ℕ} → FillingRgb count before now i → i < count
-      → word ≡ word_of (colour_in_format format (big_endian normal (first + apart * i) m)) → FillingRgb count before (set now i word) (i + 1)
-  rgb_next {i = i} filling more is = fill_next filling more (rw (zero-add i) is)
-
--- one colour on, of two bytes that were loaded the first the lowest
-pub rgb_next_2 : (format : Format) (normal : List ℕ) (first apart : ℕ) {count i half word : ℕ} {before now : List ℕ}
-    → FillingRgb format normal 2 first apart count before now i → i < count → TwoBytes normal (first + apart * i) half
-    → word ≡ word_of (colour_in_format format (half % 256 * 256 + half / 256)) → FillingRgb format normal 2 first apart count before (set now i word) (i + 1)
-rgb_next_2 format normal first apart {i = i} filling more two is =
-    rgb_next format normal 2 first apart filling more (is ∙ ap (λ (sample : ℕ). word_of (colour_in_format format sample)) (swapped normal (first + apart * i) two))
-
 -- a channel that lies in the low n bits rests on these alone
 low_channel : (word n low width : ℕ) → low + width ≤ n → channel (bits word 0 n) low width ≡ channel word low width
 low_channel word n low width within = rw (div-one word) (ap (λ (v : ℕ). widened v width) (bits_of_low word n low width within))
@@ -111,23 +92,15 @@ colour_of_low Rgb444 word = low_channels word 12 4 4 4 (lit≤ tt)
 colour_of_low Rgb555 word = low_channels word 15 5 5 5 (lit≤ tt)
 colour_of_low Rgb888 word = low_channels word 24 8 8 8 (lit≤ tt)
 
-module _ {depth : ℕ} {entry : WindowEntry} (normal : List ℕ) {x n m first : ℕ} (held : HeldBy depth entry x n m first) (says : Says depth entry) (all : AllBytes normal) {format : Format} (is_format : entry.format ≡ format) (rgb : (entry.format ≡ Rgb332) ⊎ (entry.format ≡ Rgb444) ⊎ (entry.format ≡ Rgb555) ⊎ (entry.format ≡ Rgb888)) where
-  -- the colour of the bytes that hold a pixel's sample is the normal colour of the pixel
-  pub pixel_normal : (store overlay : List ℕ) (i : ℕ)
-      → word_of (colour_in_format format (big_endian normal (first + n * i) m)) ≡ value (pixel_view store normal overlay) (normal_at depth entry (x + i))
-  pixel_normal store overlay i =
-      let bytes = big_endian normal (first + n * i) m in
-      let sample = sample_of entry (pixel_word depth normal (x + i)) in
-      let same : colour_in_format entry.format sample ≡ colour_in_format entry.format bytes =
-      ap (λ (s : ℕ). colour_in_format entry.format s) (sample_in_bytes depth entry normal says all held i)
-      ∙ colour_of_low entry.format bytes in
-      ap (λ (f : Format). word_of (colour_in_format f bytes)) (sym is_format)
-      ∙ normal_of_colour (pixel_view store normal overlay) depth entry (x + i) (shown_rgb entry sample rgb) (sym (ap word_of same))
-
-  -- a run of such colours is the run of normal colours
-  pub run_normal : (count : ℕ) (before : List ℕ) {after : List ℕ}
-      → after ≡ filled (λ i. word_of (colour_in_format format (big_endian normal (first + n * i) m))) 0 before count
-      → (store : List ℕ) → FilledNormal depth entry store normal x count before after
-  run_normal count before is store overlay =
-      is ∙ (filled_same _ (λ i. value (pixel_view store normal overlay) (normal_at depth entry (x + i))) 0 before count (λ i low high. pixel_normal store overlay i)
-      ∙ filled_from (λ p. value (pixel_view store normal overlay) (normal_at depth entry p)) x before count)
+-- the colour of the bytes that hold a pixel's sample is the normal colour of the pixel
+pub pixel_normal : {depth : ℕ} {entry : WindowEntry} {m : ℕ} {format : Format} (store normal overlay : List ℕ) → Says depth entry → AllBytes normal → held_by entry ≡ m
+    → entry.format ≡ format → (entry.format ≡ Rgb332) ⊎ (entry.format ≡ Rgb444) ⊎ (entry.format ≡ Rgb555) ⊎ (entry.format ≡ Rgb888) → (x i : ℕ)
+    → word_of (colour_in_format format (big_endian normal (place_at depth entry.low m x i) m)) ≡ value (pixel_view store normal overlay) (normal_at depth entry (x + i))
+pixel_normal {depth} {entry} {m} store normal overlay says all held is_format rgb x i =
+    let bytes = big_endian normal (place_at depth entry.low m x i) m in
+    let sample = sample_of entry (pixel_word depth normal (x + i)) in
+    let same : colour_in_format entry.format sample ≡ colour_in_format entry.format bytes =
+    ap (λ (s : ℕ). colour_in_format entry.format s) (sample_in_bytes depth entry normal says all (held_of says held) x i)
+    ∙ colour_of_low entry.format bytes in
+    ap (λ (f : Format). word_of (colour_in_format f bytes)) (sym is_format)
+    ∙ normal_of_colour (pixel_view store normal overlay) depth entry (x + i) (shown_rgb entry sample rgb) (sym (ap word_of same))

@@ -1,16 +1,39 @@
 -- Tables of sums, row by row. Assumes nothing.
 use Prim.Native.Nat.{ℕ, ◌+◌, ◌-◌, ◌*◌, ◌/◌, ◌%◌, ◌≤◌, ◌<◌}
 use mathlib.Core.Path.{◌≡◌, refl, ap, ◌∙◌}
-use mathlib.Core.List.{List}
-use native.Mathlib.Nat.{zero-mul, add-mul, one-mul, mul-le-mul_right}
+use mathlib.Core.List.{List, [], ◌++◌, append_assoc, append-nil}
+use native.Mathlib.Nat.{zero-add, zero-mul, add-mul, one-mul, mul-le-mul_right}
 use native.Mathlib.Omega.{arith}
 use borrow.Rule.Slice.PartMut.{put_mid}
 use lib.Arith.{digits_div, digits_mod}
-use lib.ListN.{length, get_or, take, drop}
-use Rattle.rules.specs.Lists.{filled}
-use Rattle.rules.proofs.Fill.{filled_same, filled_from, filled_length, fill_run}
+use lib.ListN.{length, get_or, take, drop, drop_of_length-le, length-take}
+use lib.Seq.{take_at, drop_at, drop-drop}
+use Rattle.rules.specs.Lists.{values, filled}
+use Rattle.rules.proofs.Lists.{length_values, values_add}
+use Rattle.rules.proofs.Fill.{filled_same, filled_from, filled_length}
 
-module _ (across down : List ℕ) (columns rows : ℕ) where
+module _ {A : Type 0} (f : ℕ → A) where
+  -- a part that is filled from its first element on is its values
+  part_values : (x n : ℕ) (room last : List A) → last ≡ filled f x (take n room) n → last ≡ values f n x
+  part_values x n room last is =
+      let short : length (take n room) ≤ n = omega (arith, length-take n room) in
+      is ∙ rw (drop_of_length-le (take n room) short) (append-nil (values f n x))
+
+  -- a part that was lent and is filled on makes a list filled to x one filled to its end
+  part_run : (x n : ℕ) (before now last : List A) → now ≡ filled f 0 before x → last ≡ filled f x (take n (drop x now)) n
+      → put_mid x n now last ≡ filled f 0 before (x + n)
+  part_run x n before now last list made =
+      rw (part_values x n (drop x now) last made, list, take_at (values f x 0) (drop x before) x (length_values f x 0), drop_at (values f x 0) (drop x before) x (length_values f x 0), drop-drop, values_add f x n 0, zero-add, append_assoc)
+
+module _ (across down : List ℕ) where
+  -- how many columns there are
+  abbrev columns : ℕ
+  columns = length across
+
+  -- how many rows there are
+  abbrev rows : ℕ
+  rows = length down
+
   -- sum k: a row for each of the second table, in it a column for each of the first
   abbrev sum_of : ℕ → ℕ
   sum_of k = get_or across (k % columns) 0 + get_or down (k / columns) 0
@@ -22,43 +45,26 @@ module _ (across down : List ℕ) (columns rows : ℕ) where
     pub long : length now ≡ length before
     pub list : now ≡ filled sum_of 0 before (row * columns)
 
-  -- before the first row
-  pub summing_start : {before : List ℕ} → rows * columns ≤ length before → Summing before before 0
-  summing_start fits = record { in_range = omega arith; fits = fits; long = refl; list = rw (zero-mul columns) }
-
-  module _ {before now : List ℕ} {row : ℕ} (summing : Summing before now row) where
-    -- the next row
-    next_row : (row + 1) * columns ≡ row * columns + columns
-    next_row = rw (add-mul row 1 columns, one-mul columns)
-
-    -- it is in the table
-    pub row_fits : row < rows → row * columns + columns ≤ length now
-    row_fits more =
-        let below : (row + 1) * columns ≤ rows * columns = mul-le-mul_right columns (omega arith) in
-        omega (arith, below, next_row, summing.fits, summing.long)
-
-    -- one row on, made by a callee that was lent the table from it on
-    pub summing_next : (last : List ℕ) → row < rows
-        → last ≡ filled (λ k. get_or across k 0 + get_or down row 0) 0 (take (length now - row * columns) (drop (row * columns) now)) columns
-        → Summing before (put_mid (row * columns) (length now - row * columns) now last) (row + 1)
-    summing_next last more made =
-        let x = row * columns in
-        let rest = take (length now - x) (drop x now) in
-        let count : x + columns - x ≡ columns = omega arith in
-        let here : last ≡ filled sum_of x rest (x + columns - x) =
-        rw count
-        (made
-        ∙ (filled_same (λ k. get_or across k 0 + get_or down row 0) (λ k. sum_of (x + k)) 0 rest columns (λ k low high. let below : k < columns = omega arith in rw (digits_mod row below, digits_div row below))
-        ∙ filled_from sum_of x rest columns)) in
-        let list : put_mid x (length now - x) now last ≡ filled sum_of 0 before (x + columns) =
-        fill_run sum_of sum_of x (x + columns) before now last (omega arith) summing.list here (λ p low high. refl) in
-        record {
-          in_range = omega arith;
-          fits = summing.fits;
-          long = ap length list ∙ filled_length sum_of 0 before (x + columns) (omega (arith, row_fits more, summing.long));
-          list = rw next_row list;
-        }
-
-  -- after the last row
-  pub summing_over : {before now : List ℕ} {row : ℕ} → Summing before now row → rows ≤ row → now ≡ filled sum_of 0 before (rows * columns)
-  summing_over {row = row} summing all = let e : row ≡ rows = omega (arith, summing.in_range) in rw e at summing.list
+  -- one row on, made by a callee that was lent its part of the table
+  pub summing_next : {before now : List ℕ} {row : ℕ} (last : List ℕ) → Summing before now row → row < rows
+      → last ≡ filled (λ k. get_or across k 0 + get_or down row 0) 0 (take (row * columns + columns - row * columns) (drop (row * columns) now)) columns
+      → Summing before (put_mid (row * columns) (row * columns + columns - row * columns) now last) (row + 1)
+  summing_next {before} {now} {row} last summing more made =
+      let x = row * columns in
+      let count : x + columns - x ≡ columns = omega arith in
+      let next : (row + 1) * columns ≡ x + columns = rw (add-mul row 1 columns, one-mul columns) in
+      let below : (row + 1) * columns ≤ rows * columns = mul-le-mul_right columns (omega arith) in
+      let rest = take columns (drop x now) in
+      let row_made : last ≡ filled (λ k. get_or across k 0 + get_or down row 0) 0 rest columns = rw count at made in
+      let here : last ≡ filled sum_of x rest columns =
+      row_made
+      ∙ (filled_same (λ k. get_or across k 0 + get_or down row 0) (λ k. sum_of (x + k)) 0 rest columns (λ k low high. let below : k < columns = omega arith in rw (digits_mod row below, digits_div row below))
+      ∙ filled_from sum_of x rest columns) in
+      let list : put_mid x (x + columns - x) now last ≡ filled sum_of 0 before (x + columns) =
+      rw count (part_run sum_of x columns before now last summing.list here) in
+      record {
+        in_range = omega arith;
+        fits = summing.fits;
+        long = ap length list ∙ filled_length sum_of 0 before (x + columns) (omega (arith, below, next, summing.fits));
+        list = rw next list;
+      }

@@ -4,7 +4,8 @@ use Rattle.rules.specs.Rule.{Rule, done, value, ◌>>=◌}
 use Rattle.rules.specs.Lists.{filled, changed}
 use Rattle.words.specs.Field.{bits}
 use Rattle.words.specs.Bytes.{big_endian}
-use Rattle.chip_registers.specs.Store.{store_length}
+use Rattle.chip_registers.specs.Store.{store_length, stored}
+use Rattle.chip_registers.specs.declared.Block.TheVariants.{ColourMap}
 use Rattle.line_formats.specs.Table.{widths_of}
 use Rattle.line_colour.specs.Shown.{shown_of}
 use Rattle.line_colour.specs.declared.entry.WindowEntry.{WindowEntry}
@@ -50,9 +51,9 @@ CountedFrom entry first = (sample : ℕ) → shown_of entry sample ≡ MapEntry 
 abbrev pub index_in : List ℕ → ℕ → ℕ
 index_in bytes at = bits (big_endian bytes at 2) 0 12
 
--- the colour of that index, the 24 low bits of its word of the map
+-- the colour of that index
 abbrev pub indexed_colour : List ℕ → List ℕ → ℕ → ℕ
-indexed_colour map bytes at = get_or map (index_in bytes at) 0 % 16777216
+indexed_colour store bytes at = stored store (record { block = ColourMap; word = index_in bytes at })
 
 -- a run filled with plain colours, whatever the overlay row holds
 abbrev pub FilledPlain : ℕ → WindowEntry → List ℕ → List ℕ → ℕ → ℕ → List ℕ → List ℕ → Type 0
@@ -64,10 +65,10 @@ abbrev pub FilledNormal : ℕ → WindowEntry → List ℕ → List ℕ → ℕ 
 FilledNormal depth entry store normal x count before after =
     (overlay : List ℕ) → after ≡ filled (λ p. value (pixel_view store normal overlay) (normal_at depth entry p)) x before count
 
--- the first `count` words gone through gamma, unless they bypass it, whatever the rows hold
-abbrev pub Corrected : List ℕ → Bool → List ℕ → ℕ → List ℕ → Type 0
-Corrected store bypass before count after =
-    (normal overlay : List ℕ) → after ≡ changed (λ _ word. value (pixel_view store normal overlay) (through_gamma bypass word)) 0 before count
+-- words gone through gamma, unless they bypass it, whatever the rows hold
+abbrev pub Corrected : List ℕ → Bool → List ℕ → List ℕ → Type 0
+Corrected store bypass before after =
+    (normal overlay : List ℕ) → after ≡ changed (λ _ word. value (pixel_view store normal overlay) (through_gamma bypass word)) 0 before (length before)
 
 -- the red of gamma word k, where it stands in a colour
 abbrev pub gamma_red : List ℕ → ℕ → ℕ
@@ -113,16 +114,13 @@ pub record PairsFit (values : ℕ) (pairs blues : List ℕ) : Type 0 where
   pub pairs_fit : (k : ℕ) → k < values * values → get_or pairs k 0 ≤ 255 * 65536 + 255 * 256
   pub blues_fit : (v : ℕ) → v < values → get_or blues v 0 ≤ 255
 
--- how many values a channel has, of five bits or of four
-abbrev pub values_of : Bool → ℕ
-values_of fives = cond fives 32 16
+-- the colour of two bytes in RGB 4-4-4 by two such tables
+abbrev pub paired_444 : List ℕ → List ℕ → List ℕ → ℕ → ℕ
+paired_444 pairs blues bytes at = get_or pairs (get_or bytes (at + 1) 0) 0 + get_or blues (get_or bytes at 0 % 16) 0
 
--- the colour of two bytes by two such tables, in RGB 5-5-5 or 4-4-4
-abbrev pub paired_at : Bool → List ℕ → List ℕ → List ℕ → ℕ → ℕ
-paired_at fives pairs blues bytes at =
-    cond fives
-    (get_or pairs (get_or bytes at 0 % 4 * 256 + get_or bytes (at + 1) 0) 0 + get_or blues (get_or bytes at 0 / 4 % 32) 0)
-    (get_or pairs (get_or bytes (at + 1) 0) 0 + get_or blues (get_or bytes at 0 % 16) 0)
+-- the colour of two bytes in RGB 5-5-5 by two such tables
+abbrev pub paired_555 : List ℕ → List ℕ → List ℕ → ℕ → ℕ
+paired_555 pairs blues bytes at = get_or pairs (get_or bytes at 0 % 4 * 256 + get_or bytes (at + 1) 0) 0 + get_or blues (get_or bytes at 0 / 4 % 32) 0
 
 -- the colour of an overlay byte, or what is under it where the byte is 0
 unfoldable pub overlaid_or : WindowEntry → ℕ → ℕ → Rule ⊥ PixelCell ℕ

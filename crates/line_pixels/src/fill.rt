@@ -10,9 +10,7 @@ ghost use Rattle.line_pixels.specs.Source.{PlainReaches, PixelsReach, Drawn, Pla
 use crate::Screen;
 use crate::correction::correct;
 use crate::lengths::{LAYERED_RUN, PAIRED_RUN, shortest_looked_up};
-use crate::looked_up::fill_looked_up;
-use crate::paired::{fill_paired, is_paired};
-use crate::rgb::fill_rgb;
+use crate::paired::is_paired;
 use crate::runs::{OneByOne, Stepping};
 use crate::source::Source;
 use chip_registers::STORE_WORDS;
@@ -39,17 +37,16 @@ impl Source<'_> {
         requires { PlainReaches self.now (x + length out.old) }
         ensures { PlainDrawn self.now x out.old out.new }
     {
-        let depth = self.screen.depth;
         let entry = self.entry;
         if shortest_looked_up(entry.bypass) <= out.len() && samples_of_8(entry.format) {
-            fill_looked_up(depth, entry, self.store, self.normal, x, out.len(), out);
+            self.fill_looked_up(x, out);
         } else if PAIRED_RUN <= out.len() && is_paired(entry) {
-            fill_paired(depth, entry, self.store, self.normal, x, out.len(), out);
+            self.fill_paired(x, out);
         } else if indexed(entry.format) {
             self.fill_mapped(x, out);
         } else {
-            fill_rgb(depth, entry, self.normal, x, out.len(), out);
-            correct(self.store, entry.bypass, out, out.len());
+            self.fill_rgb(x, out);
+            correct(self.store, entry.bypass, out);
         }
     }
 

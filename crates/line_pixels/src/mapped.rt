@@ -9,7 +9,7 @@ ghost use Rattle.line_pixels.specs.Inner.{OverStore, CountedFrom};
 ghost use Rattle.line_pixels.specs.Source.{view_of, PlainReaches, PlainDrawn};
 ghost use Rattle.line_formats.specs.Table.{widths_of};
 
-use crate::index_12::{fill_bypassed, fill_corrected, is_index_12};
+use crate::index_12::is_index_12;
 use crate::layers::{mapped, through_gamma};
 use crate::lengths::SPLIT_WORDS;
 use crate::runs::{OneByOne, Stepping};
@@ -71,25 +71,9 @@ impl Source<'_> {
     {
         let index_12 = is_index_12(self.entry.format);
         if index_12 && self.entry.bypass {
-            fill_bypassed(
-                self.screen.depth,
-                self.entry,
-                self.store,
-                self.normal,
-                x,
-                out.len(),
-                out,
-            );
+            self.fill_bypassed(x, out);
         } else if index_12 && SPLIT_WORDS <= out.len() {
-            fill_corrected(
-                self.screen.depth,
-                self.entry,
-                self.store,
-                self.normal,
-                x,
-                out.len(),
-                out,
-            );
+            self.fill_corrected(x, out);
         } else {
             self.fill_few(x, out);
         }

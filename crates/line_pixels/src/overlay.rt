@@ -56,7 +56,7 @@ impl Source<'_> {
     {
         let mut colours = [0; 256];
         map_colours(self.store, OVERLAY_COLOURS, &mut colours);
-        correct(self.store, self.entry.bypass, &mut colours[..], 256);
+        correct(self.store, self.entry.bypass, &mut colours);
         lay_by(&colours, self.overlay, x, out);
     }
 

@@ -1,14 +1,15 @@
 // Runs in RGB: each colour is worked out for its pixel, in 4-4-4, 5-5-5 and 8-8-8 of its bytes as they are loaded, so that a turn of the loop does many pixels at once.
-ghost use Rattle.std.specs.Prelude.{ℕ, ◌+◌, ◌*◌, ◌/◌, ◌%◌, ◌≤◌, ◌<◌, ◌≡◌, List, ◌⊎◌, length};
-ghost use Rattle.rules.specs.Lists.{filled};
+ghost use Rattle.std.specs.Prelude.{◌+◌, ◌*◌, ◌/◌, ◌%◌, ◌≤◌, ◌<◌, ◌≡◌, ◌⊎◌, length};
 ghost use Rattle.words.specs.Bytes.{big_endian};
 ghost use Rattle.words.specs.Channels.{word_of};
 ghost use Rattle.line_formats.specs.Table.{colour_in_format};
-ghost use Rattle.line_pixels.specs.Inner.{RowLent, FilledNormal};
+ghost use Rattle.line_pixels.specs.Colour.{normal_at};
+ghost use Rattle.line_pixels.specs.Source.{PlainReaches, Drawn};
 
 use crate::bytes::{le16, le32};
-use crate::rgb_332::run_332;
-use line_colour::entry::WindowEntry;
+use crate::rgb_332::colour_332;
+use crate::runs::OneByOne;
+use crate::source::Source;
 use line_formats::Format;
 
 // The colour in RGB 4-4-4 of two bytes, the first here the lowest: one product widens all channels.
@@ -43,81 +44,50 @@ fn word_555(half: u32) -> u32
     widened_5(spread_555(half))
 }
 
-// The colours in RGB 4-4-4 of two bytes each, which stand so many bytes apart.
-fn run_444(apart: usize, normal: &[u8], first: usize, count: usize, out: &mut [u32])
-    requires { ((i : ℕ) → i < count → first + apart * i + 2 ≤ length normal.now) × (count ≤ length out.old) }
-    ensures { out.new ≡ filled (λ i. word_of (colour_in_format Format.Rgb444 (big_endian normal.now (first + apart * i) 2))) 0 out.old count }
+// The colour in RGB 4-4-4 of the two bytes at a place.
+fn colour_444(normal: &[u8], at: usize) -> u32
+    requires { at + 2 ≤ length normal.now }
+    ensures { result ≡ word_of (colour_in_format Format.Rgb444 (big_endian normal.now at 2)) }
 {
-    let mut i = 0;
-    while i < count {
-        out[i] = word_444(le16(normal, first + apart * i));
-        i += 1;
-    }
+    word_444(le16(normal, at))
 }
 
-// The colours in RGB 5-5-5 of two bytes each, which stand so many bytes apart.
-fn run_555(apart: usize, normal: &[u8], first: usize, count: usize, out: &mut [u32])
-    requires { ((i : ℕ) → i < count → first + apart * i + 2 ≤ length normal.now) × (count ≤ length out.old) }
-    ensures { out.new ≡ filled (λ i. word_of (colour_in_format Format.Rgb555 (big_endian normal.now (first + apart * i) 2))) 0 out.old count }
+// The colour in RGB 5-5-5 of the two bytes at a place.
+fn colour_555(normal: &[u8], at: usize) -> u32
+    requires { at + 2 ≤ length normal.now }
+    ensures { result ≡ word_of (colour_in_format Format.Rgb555 (big_endian normal.now at 2)) }
 {
-    let mut i = 0;
-    while i < count {
-        out[i] = word_555(le16(normal, first + apart * i));
-        i += 1;
-    }
+    word_555(le16(normal, at))
 }
 
-// The colours in RGB 8-8-8 of four bytes each: the channels stand as in a colour once the first byte is dropped.
-fn run_888(normal: &[u8], first: usize, count: usize, out: &mut [u32])
-    requires { ((i : ℕ) → i < count → first + 4 * i + 4 ≤ length normal.now) × (count ≤ length out.old) }
-    ensures { out.new ≡ filled (λ i. word_of (colour_in_format Format.Rgb888 (big_endian normal.now (first + 4 * i) 4))) 0 out.old count }
+// The colour in RGB 8-8-8 of the four bytes at a place: the channels stand as in a colour once the first byte is dropped.
+fn colour_888(normal: &[u8], at: usize) -> u32
+    requires { at + 4 ≤ length normal.now }
+    ensures { result ≡ word_of (colour_in_format Format.Rgb888 (big_endian normal.now at 4)) }
 {
-    let mut i = 0;
-    while i < count {
-        out[i] = le32(normal, first + 4 * i) / 256;
-        i += 1;
-    }
+    le32(normal, at) / 256
 }
 
-// A run in RGB. How far pixels stand apart is said in each arm, since a loop does many at once only where that is fixed.
-pub(crate) fn fill_rgb(
-    depth: u32,
-    entry: WindowEntry,
-    normal: &[u8],
-    x: usize,
-    count: usize,
-    out: &mut [u32],
-)
-    requires { RowLent depth entry normal.now (x + count) × ((entry.format ≡ Format.Rgb332) ⊎ (entry.format ≡ Format.Rgb444) ⊎ (entry.format ≡ Format.Rgb555) ⊎ (entry.format ≡ Format.Rgb888)) × (count ≤ length out.old) }
-    ensures { (store : List ℕ) → FilledNormal depth entry store normal.now x count out.old out.new }
-{
-    let format = entry.format;
-    let high = (entry.low / 8) as usize;
-    match format {
-        Format::Rgb332 => {
-            if depth == 32 {
-                run_332(4, normal, 4 * x + 3 - high, count, out);
-            } else {
-                run_332(2, normal, 2 * x + 1 - high, count, out);
+impl Source<'_> {
+    // The normal colours of a run in RGB.
+    pub(crate) fn fill_rgb(&self, x: usize, out: &mut [u32])
+        requires { PlainReaches self.now (x + length out.old) × ((self.now.entry.format ≡ Format.Rgb332) ⊎ (self.now.entry.format ≡ Format.Rgb444) ⊎ (self.now.entry.format ≡ Format.Rgb555) ⊎ (self.now.entry.format ≡ Format.Rgb888)) }
+        ensures { Drawn self.now (normal_at self.now.screen.depth self.now.entry) x out.old out.new }
+    {
+        match self.entry.format {
+            Format::Rgb332 => {
+                self.fill_held::<OneByOne, 1, _>(x, colour_332, out);
             }
-        }
-        Format::Rgb444 => {
-            if depth == 32 {
-                run_444(4, normal, 4 * x + 2 - high, count, out);
-            } else {
-                run_444(2, normal, 2 * x, count, out);
+            Format::Rgb444 => {
+                self.fill_held::<OneByOne, 2, _>(x, colour_444, out);
             }
-        }
-        Format::Rgb555 => {
-            if depth == 32 {
-                run_555(4, normal, 4 * x + 2 - high, count, out);
-            } else {
-                run_555(2, normal, 2 * x, count, out);
+            Format::Rgb555 => {
+                self.fill_held::<OneByOne, 2, _>(x, colour_555, out);
             }
-        }
-        // RGB 8-8-8 is all that is left.
-        Format::Rgb888 | Format::Index8 | Format::Index12 => {
-            run_888(normal, 4 * x, count, out);
+            // RGB 8-8-8 is all that is left.
+            Format::Rgb888 | Format::Index8 | Format::Index12 => {
+                self.fill_held::<OneByOne, 4, _>(x, colour_888, out);
+            }
         }
     }
 }

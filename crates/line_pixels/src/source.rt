@@ -1,4 +1,6 @@
 // What the pixels of a run are drawn from.
+ghost use Rattle.std.specs.Prelude.{ℕ, ◌<◌, get_or};
+
 use crate::Screen;
 use chip_registers::STORE_WORDS;
 use line_colour::entry::WindowEntry;
@@ -16,4 +18,6 @@ pub(crate) struct Source<'a> {
     pub normal: &'a [u8],
     // The overlay row.
     pub overlay: &'a [u8],
+    // Each element of the normal row is a byte.
+    ghost bytes: { (place : ℕ) → get_or normal.now place 0 < 256 },
 }
