@@ -7,6 +7,7 @@ pub mod CursorShows
 pub mod CellsInMemory
 pub mod LayersCases
 pub mod Colours
+pub mod Layering
 pub mod FilledRuns
 pub mod RgbRuns
 pub mod IndexRuns

@@ -1,13 +1,6 @@
 // Little-endian numbers in lent bytes. Each function stands alone, since its sum then becomes one load, which a loop can do for many pixels at once.
 ghost use Rattle.std.specs.Prelude.{◌+◌, ◌*◌, ◌≤◌, ◌<◌, ◌≡◌, length, get_or};
 
-// A byte, as a number with room above it.
-pub(crate) fn wide(byte: u8) -> u32
-    ensures { (result ≡ byte) × (result < 256) }
-{
-    u32::from(byte)
-}
-
 // The number in two bytes, the first the lowest.
 pub(crate) fn le16(bytes: &[u8], at: usize) -> u32
     requires { at + 2 ≤ length bytes.now }

@@ -102,6 +102,7 @@ impl Source<'_> {
     }
 
     // The cursor colour of a pixel, or what is under it where none shows.
+    #[tactic(auto, using(rules::proofs::Value::value_then), unfolding(crate::specs::Inner::cursor_or))]
     fn cursor_or(&self, x: usize, under: u32) -> u32
         ensures { result ≡ value (view_of self.now) (cursor_or self.now.screen self.now.entry x under) }
     {

@@ -102,7 +102,6 @@ impl Source<'_> {
     }
 
     // The colour of an overlay byte.
-    #[tactic(auto, unfolding(crate::specs::Colour::overlaid))]
     pub(crate) fn overlay_shown(&self, byte: u8) -> u32
         ensures { result ≡ value (view_of self.now) (overlaid self.now.entry byte) }
     {
@@ -126,6 +125,7 @@ impl Source<'_> {
     }
 
     // The colour of a pixel where the cursor doesn't show.
+    #[tactic(auto, using(rules::proofs::Value::value_then), unfolding(crate::specs::Colour::under_cursor))]
     fn under_cursor(&self, x: usize) -> u32
         requires { PixelsReach self.now (x + 1) }
         ensures { result ≡ value (view_of self.now) (under_cursor self.now.screen self.now.entry x) }
@@ -138,7 +138,6 @@ impl Source<'_> {
     }
 
     // A cursor colour.
-    #[tactic(auto, unfolding(crate::specs::Colour::cursor_shown))]
     pub(crate) fn cursor_shown(&self, number: u32) -> u32
         requires { (1 ≤ number) × (number < 4) }
         ensures { result ≡ value (view_of self.now) (cursor_shown self.now.screen self.now.entry number) }
@@ -156,6 +155,7 @@ impl Source<'_> {
     }
 
     // The colour of a pixel.
+    #[tactic(auto, using(rules::proofs::Value::value_then), unfolding(crate::specs::Colour::colour_of_pixel))]
     pub(crate) fn colour_of_pixel(&self, x: usize) -> u32
         requires { PixelsReach self.now (x + 1) }
         ensures { result ≡ value (view_of self.now) (colour_of_pixel self.now.screen self.now.entry x) }

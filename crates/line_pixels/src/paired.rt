@@ -89,13 +89,21 @@ impl Source<'_> {
             Format::Rgb444 => {
                 // 17 times a value is 68 quarters of it.
                 let words = FinalWords::of(self.store, 68);
-                self.fill_held::<FourByFour, 2, _>(x, |normal, at| colour_444(&words, normal, at), out);
+                self.fill_held::<FourByFour, 2, _>(
+                    x,
+                    |normal, at| colour_444(&words, normal, at),
+                    out,
+                );
             }
             // RGB 5-5-5 is all that is left.
             Format::Rgb555 | Format::Index8 | Format::Index12 | Format::Rgb332 | Format::Rgb888 => {
                 // 8 times a value and a quarter of it are 33 quarters.
                 let words = FinalWords::of(self.store, 33);
-                self.fill_held::<FourByFour, 2, _>(x, |normal, at| colour_555(&words, normal, at), out);
+                self.fill_held::<FourByFour, 2, _>(
+                    x,
+                    |normal, at| colour_555(&words, normal, at),
+                    out,
+                );
             }
         }
     }

@@ -97,10 +97,11 @@ sum_rows-requires c =
     let others = c.fill-2.ensures (λ k. colour (8 * k)) (λ i answer below post. search rules) in
     let eight : length c.fill.new.words ≡ 8 = ap length reds in
     let thirty_two : length c.fill-2.new.words ≡ 32 = ap length others in
-    rw (eight, thirty_two)
-    (red_fits {reds = c.fill.new.words} {others = c.fill-2.new.words} (replicate 8 0) (replicate 32 0) reds others,
-    other_fits {reds = c.fill.new.words} {others = c.fill-2.new.words} (replicate 8 0) (replicate 32 0) reds others,
-    omega (arith, c.told-colours))
+    rw (eight, thirty_two) (
+      red_fits {reds = c.fill.new.words} {others = c.fill-2.new.words} (replicate 8 0) (replicate 32 0) reds others,
+      other_fits {reds = c.fill.new.words} {others = c.fill-2.new.words} (replicate 8 0) (replicate 32 0) reds others,
+      omega (arith, c.told-colours),
+    )
 
 pub returns : goal.returns
 returns c =

@@ -16,8 +16,7 @@ sum_rows-requires g c =
     let greens = c.fill-2.ensures (λ v. gamma_green store (quarters * v / 4)) (λ i answer below post. search rules) in
     let blues = c.fill-3.ensures (λ v. gamma_blue store (quarters * v / 4)) (λ i answer below post. search rules) in
     let red_many : length c.fill.new.words ≡ values = reds_many store quarters values {reds = c.fill.new.words} {greens = c.fill-2.new.words} {blues = c.fill-3.new.words} zeros zeros zeros long long long reds greens blues in
-    let green_many : length c.fill-2.new.words ≡ values = greens_many store quarters values {reds = c.fill.new.words} {greens = c.fill-2.new.words} {blues = c.fill-3.new.words} zeros zeros zeros long long long reds greens blues in
-    (
+    let green_many : length c.fill-2.new.words ≡ values = greens_many store quarters values {reds = c.fill.new.words} {greens = c.fill-2.new.words} {blues = c.fill-3.new.words} zeros zeros zeros long long long reds greens blues in (
       reds_fit store quarters values {reds = c.fill.new.words} {greens = c.fill-2.new.words} {blues = c.fill-3.new.words} zeros zeros zeros long long long reds greens blues,
       greens_fit store quarters values {reds = c.fill.new.words} {greens = c.fill-2.new.words} {blues = c.fill-3.new.words} zeros zeros zeros long long long reds greens blues,
       rw (red_many, green_many, length-replicate {A = ℕ} g.row.PAIRS 0) (omega arith),
