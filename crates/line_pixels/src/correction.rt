@@ -1,11 +1,35 @@
 // Gamma over words that are drawn already: a few by the map itself, many by three tables, one for each channel, that are made of it first.
-ghost use Rattle.std.specs.Prelude.{◌≡◌, false, length};
-ghost use Rattle.line_pixels.specs.Inner.{Corrected, SplitBy, TablesFit, by_tables};
+ghost use Rattle.std.specs.Prelude.{◌<◌, ◌≡◌, false};
+ghost use Rattle.line_pixels.specs.Inner.{Corrected, gamma_red, gamma_green, gamma_blue, SplitBy, TablesFit, by_tables};
 
 use crate::layers::through_gamma;
 use crate::lengths::SPLIT_WORDS;
 use crate::runs::{FourByFour, OneByOne, Stepping};
 use chip_registers::{GAMMA_MAP_START, STORE_WORDS};
+
+// The red of a gamma word, where it stands in a colour.
+pub(crate) fn gamma_red(store: &[u32; STORE_WORDS], k: usize) -> u32
+    requires { k < 256 }
+    ensures { result ≡ gamma_red store.now k }
+{
+    store[GAMMA_MAP_START + k] / 65536 % 256 * 65536
+}
+
+// Its green.
+pub(crate) fn gamma_green(store: &[u32; STORE_WORDS], k: usize) -> u32
+    requires { k < 256 }
+    ensures { result ≡ gamma_green store.now k }
+{
+    store[GAMMA_MAP_START + k] / 256 % 256 * 256
+}
+
+// Its blue.
+pub(crate) fn gamma_blue(store: &[u32; STORE_WORDS], k: usize) -> u32
+    requires { k < 256 }
+    ensures { result ≡ gamma_blue store.now k }
+{
+    store[GAMMA_MAP_START + k] % 256
+}
 
 // The gamma map split into its channels, each where it stands in a colour.
 #[derive(Drop)]
@@ -24,12 +48,9 @@ impl GammaTables {
         let mut red = [0; 256];
         let mut green = [0; 256];
         let mut blue = [0; 256];
-        OneByOne::fill(
-            |k| store[GAMMA_MAP_START + k] / 65536 % 256 * 65536,
-            &mut red,
-        );
-        OneByOne::fill(|k| store[GAMMA_MAP_START + k] / 256 % 256 * 256, &mut green);
-        OneByOne::fill(|k| store[GAMMA_MAP_START + k] % 256, &mut blue);
+        OneByOne::fill(|k| gamma_red(store, k), &mut red);
+        OneByOne::fill(|k| gamma_green(store, k), &mut green);
+        OneByOne::fill(|k| gamma_blue(store, k), &mut blue);
         GammaTables { red, green, blue }
     }
 

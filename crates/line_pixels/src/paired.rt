@@ -1,12 +1,13 @@
 // Long runs in RGB 4-4-4 and 5-5-5 through gamma: the final words of red and green together, for all values of the two, and those of blue are made once, and the colour of a pixel is the sum of one of each.
 ghost use Rattle.std.specs.Prelude.{ℕ, ◌+◌, ◌*◌, ◌/◌, ◌%◌, ◌≤◌, ◌<◌, ◌≡◌, true, false, ◌⊎◌, length};
-ghost use Rattle.line_pixels.specs.Inner.{PairedBy, PairsFit, paired_444, paired_555};
+ghost use Rattle.line_pixels.specs.Inner.{gamma_red, gamma_green, gamma_blue, PairedBy, PairsFit, paired_444, paired_555};
 ghost use Rattle.line_pixels.specs.Source.{PlainReaches, PlainDrawn};
 
+use crate::correction::{gamma_blue, gamma_green, gamma_red};
 use crate::runs::{FourByFour, OneByOne, Stepping};
 use crate::source::Source;
 use crate::sums::sum_rows;
-use chip_registers::{GAMMA_MAP_START, STORE_WORDS};
+use chip_registers::STORE_WORDS;
 use line_colour::entry::WindowEntry;
 use line_formats::Format;
 
@@ -29,15 +30,24 @@ impl<const VALUES: usize, const PAIRS: usize> FinalWords<VALUES, PAIRS> {
         let mut blues = [0; VALUES];
         let mut pairs = [0; PAIRS];
         OneByOne::fill(
-            |v| store[GAMMA_MAP_START + quarters * v / 4] / 65536 % 256 * 65536,
+            |v|
+                requires { quarters * v / 4 < 256 }
+                ensures { result ≡ gamma_red store.entry.now (quarters * v / 4) }
+            { gamma_red(store, quarters * v / 4) },
             &mut reds,
         );
         OneByOne::fill(
-            |v| store[GAMMA_MAP_START + quarters * v / 4] / 256 % 256 * 256,
+            |v|
+                requires { quarters * v / 4 < 256 }
+                ensures { result ≡ gamma_green store.entry.now (quarters * v / 4) }
+            { gamma_green(store, quarters * v / 4) },
             &mut greens,
         );
         OneByOne::fill(
-            |v| store[GAMMA_MAP_START + quarters * v / 4] % 256,
+            |v|
+                requires { quarters * v / 4 < 256 }
+                ensures { result ≡ gamma_blue store.entry.now (quarters * v / 4) }
+            { gamma_blue(store, quarters * v / 4) },
             &mut blues,
         );
         sum_rows(&reds, &greens, &mut pairs);
