@@ -21,7 +21,8 @@ impl State {
         self.windows().signals(at)
     }
 
-    // What a dot behind others changes, and what it reports.
+    // What a dot behind others changes, and what it reports. In line, so that the state is not copied once more.
+    #[inline(always)]
     pub(crate) fn last_dot(self, store: &mut [u32], before: Pass) -> ChangeAnswered<Option<Signals>>
         requires { (good_state self ≡ true) × (before.taken ≤ self.queue.waiting) × (length store.old ≡ store_length) }
         ensures { ((changed_by self result.change, store.new) ≡ after_dot (behind (self, store.old) before)) × (result.answer ≡ Ok (Some (signals_of (behind (self, store.old) before).0))) × Tells self.queue result.change.queue }

@@ -66,7 +66,8 @@ impl State {
                 answer: Ok(None),
             };
         }
-        self.last_dot(store, self.pass(count - 1))
+        let before = self.pass(count - 1);
+        self.last_dot(store, before)
     }
 
     // So many dots.

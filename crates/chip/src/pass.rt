@@ -31,9 +31,9 @@ fn drains(blank: bool, waiting: u32) -> bool
 
 // So many of the oldest writes go into their places in the store.
 #[tactic(auto, using(crate::proofs::Stored::stored_none, crate::proofs::Stored::stored_length, crate::proofs::Stored::few_wait, crate::proofs::Stored::taken_inside, crate::proofs::Stored::stored_more))]
-fn apply(queue: &Queue, store: &mut [u32], taken: u32)
-    requires { (good_queue queue.now ≡ true) × (taken ≤ queue.now.waiting) × (length store.old ≡ store_length) }
-    ensures { store.new ≡ stored_by taken queue.now store.old }
+fn apply(queue: Queue, store: &mut [u32], taken: u32)
+    requires { (good_queue queue ≡ true) × (taken ≤ queue.waiting) × (length store.old ≡ store_length) }
+    ensures { store.new ≡ stored_by taken queue store.old }
 {
     for write in &queue.slots[..taken as usize] {
         store[write.target()] = write.value;
@@ -65,7 +65,7 @@ impl State {
         let queue = if pass.taken == 0 {
             QueueChange::Same
         } else {
-            apply(&self.queue, store, pass.taken);
+            apply(self.queue, store, pass.taken);
             QueueChange::Drained(pass.taken)
         };
         let control = self.control;

@@ -53,9 +53,8 @@ impl State {
         ensures { ((self, store.now), outcome_of result) ≡ read_back (self, store.now) address }
     {
         self.call_check(store.len())?;
-        let Some(register) = Register::at(address) else {
-            return Err(Refusal::NoRegister(chip_registers::place(address)));
-        };
+        let place = chip_registers::place(address);
+        let register = Register::at(address).ok_or(Refusal::NoRegister(place))?;
         Ok(self.shown(store, register))
     }
 

@@ -26,9 +26,7 @@ impl State {
     {
         self.call_check(words)?;
         let place = chip_registers::place(address);
-        let Some(register) = Register::at(address) else {
-            return Err(Refusal::NoRegister(place));
-        };
+        let register = Register::at(address).ok_or(Refusal::NoRegister(place))?;
         if register.read_only() {
             return Err(Refusal::ReadOnly(place));
         }
@@ -46,17 +44,25 @@ impl State {
         requires { (read_only register ≡ false) × (register.word < count register.block) × (length store.old ≡ store_length) × ((waits register && full self.queue) ≡ false) }
         ensures { ((changed_by self result, store.new) ≡ put (self, store.old) register value) × Tells self.queue result.queue }
     {
-        let mut change = self.unchanged();
+        let mut control = self.control;
+        let at = self.at;
         if register.waits() {
             let word = register.word;
-            change.queue = QueueChange::Joined(Waiting { word, value });
-            return change;
+            return Change {
+                control,
+                at,
+                queue: QueueChange::Joined(Waiting { word, value }),
+            };
         }
         match register.store_place() {
             Some(index) => store[index] = value,
-            None => change.control[register.word as usize] = value,
+            None => control[register.word as usize] = value,
         }
-        change
+        Change {
+            control,
+            at,
+            queue: QueueChange::Same,
+        }
     }
 
     // What one register write changes.

@@ -4,4 +4,4 @@ use Rattle.chip.specs.Inner.{stored_by}
 use Rattle.chip.proofs.pass.apply.Given as goal
 
 abbrev pub invariant-loop-write : goal.invariant-loop-write
-invariant-loop-write l = l.store ≡ stored_by l.write-index l.queue l.initial.store
+invariant-loop-write l = l.store ≡ stored_by l.write-index l.fn.queue l.initial.store

@@ -12,4 +12,4 @@ returns-then-waits c =
     let room : full given.self.queue ≡ false = subst (λ (test : Bool). (test && full given.self.queue) ≡ false) waiting c.requires.3 in
     let sized : length given.self.queue.slots ≡ 64 = search rules in
     let more = not_full given.self.queue room in
-    (rw c.unchanged-change.ensures (sym (put_waits (given.self, given.store.now) given.register given.value waiting)), (more, omega (arith, more, sized)))
+    (sym (put_waits (given.self, given.store.now) given.register given.value waiting), (more, omega (arith, more, sized)))
