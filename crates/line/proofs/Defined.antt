@@ -8,6 +8,7 @@ use Rattle.rules.proofs.Cases.{impossible}
 use Rattle.rules.proofs.Asks.{Asks}
 use Rattle.refusals.specs.Refusal.{numbered}
 use Rattle.refusals.specs.declared.Refusal.TheVariants.{UndefinedEntry}
+use Rattle.line_colour.specs.declared.entry.WindowEntry.{WindowEntry}
 use Rattle.line.specs.Cells.{Cell}
 use Rattle.line.specs.Line.{defined_at}
 

@@ -6,21 +6,28 @@ use mathlib.Core.List.{List}
 use mathlib.Core.Logic.{⊎_elim}
 use native.Mathlib.Omega.{arith}
 use borrow.Rule.Slice.PartMut.{put_mid}
-use lib.ListN.{length, take, drop, length-drop}
+use lib.ListN.{length, take, drop, get_or, length-drop}
+use Rattle.std.specs.Prelude.{Ok, Some, None}
 use Rattle.rules.specs.Rule.{Outcome, run, value}
 use Rattle.rules.specs.Lists.{filled}
 use Rattle.rules.specs.Faults.{Numbered}
 use Rattle.rules.proofs.Cases.{impossible}
 use Rattle.rules.proofs.Fill.{fill_run, filled_length, tail_lent}
 use Rattle.refusals.specs.declared.Refusal.{Refusal}
+use Rattle.refusals.specs.declared.Refusal.TheVariants.{UndefinedEntry}
+use Rattle.line_formats.specs.Table.{format_of_number}
+use Rattle.line_formats.specs.declared.Format.{Format}
+use Rattle.line_colour.specs.Entry.{format_of, defined_as, decoded}
 use Rattle.line_colour.specs.declared.entry.WindowEntry.{WindowEntry}
+use Rattle.line_colour.proofs.Decode.{says_by_format}
+use Rattle.line_windows.specs.declared.ids.FoundId.{FoundId}
 use Rattle.line_pixels.specs.Cells.{pixel_view}
 use Rattle.line_pixels.specs.Colour.{overlay_counts, colour_of_pixel}
 use Rattle.line_pixels.specs.declared.Screen.{Screen}
 use Rattle.line_setup.specs.declared.controls.Controls.{Controls}
 use Rattle.line.specs.Cells.{Lent, lent_of}
-use Rattle.line.specs.Inner.{InRange, FitsScreen, Entries, colour_by, colour_at, Enough}
-use Rattle.line.proofs.Entries.{RunOf, NoRun}
+use Rattle.line.specs.Inner.{InRange, FitsScreen, Entries, Served, EndsRun, colour_by, colour_at, Enough}
+use Rattle.line.proofs.Entries.{RunOf, NoRun, run_of, run_undefined}
 use Rattle.line.proofs.Pass.{Passing, pass_start, pass_run}
 
 -- the first of two switches that are both on
@@ -91,3 +98,18 @@ module _ (controls : Controls) (screen : Screen) (store table normal overlay : L
       let has = entries normal overlay x inside in
       let e = sym has.1 ∙ told normal overlay in
       impossible cc
+
+  module _ (x : ℕ) (found : FoundId) (entries : Entries controls store table start) (inside : x < controls.width) (served : Served controls table start x (Ok found)) where
+    -- nor is the window entry of an ID that is found undefined
+    pub none_undefined : decoded (get_or store found.id 0) controls.depth ≡ None → ⊥
+    none_undefined undefined = none_refused (UndefinedEntry x) x entries inside (run_undefined controls store table start x found served undefined)
+
+    -- the run of the ID is drawn by what its entry says in the format that it names
+    pub run_named : {word : ℕ} {format : Format} {entry : WindowEntry} {end : ℕ} → word ≡ get_or store found.id 0 → format_of_number (format_of word) ≡ Some format
+        → entry ≡ defined_as word controls.depth format → EndsRun controls.width found.last end → RunOf controls store table start x entry end found.next
+    run_named {format = format} {entry = entry} {end = end} stored named is ends =
+        let stands = get_or store found.id 0 in
+        let names : format_of_number (format_of stands) ≡ Some format = rw stored at named in
+        let says : decoded stands controls.depth ≡ Some entry = says_by_format stands controls.depth none_undefined names ∙ ap Some (sym (rw stored at is)) in
+        run_of controls store table start x found served entry end says inside ends
+

@@ -1,6 +1,7 @@
 // One line of the picture.
-ghost use Rattle.std.specs.Prelude.{◌≡◌};
+ghost use Rattle.std.specs.Prelude.{◌≡◌, length};
 ghost use Rattle.refusals.specs.Refusal.{outcome_of};
+ghost use Rattle.chip_registers.specs.Store.{store_length};
 ghost use Rattle.line.specs.Screen.{screen_in};
 ghost use Rattle.line.specs.Cells.{lent_of};
 ghost use Rattle.line.specs.Drawn.{setup_of, drawn};
@@ -16,6 +17,7 @@ use line_setup::setup::{Lengths, Setup};
 use refusals::Refusal;
 
 // What a line goes by, with so many words of output.
+#[tactic(auto, unfolding(crate::specs::Drawn::setup_of))]
 fn setup(
     request: Request,
     store: &[u32],
@@ -68,6 +70,14 @@ fn screen(setup: Setup) -> Screen
     }
 }
 
+// A store that has its length.
+fn whole(store: &[u32]) -> &[u32; STORE_WORDS]
+    requires { length store.now ≡ store_length }
+    ensures { result.now ≡ store.now }
+{
+    store.try_into().unwrap()
+}
+
 // Every check of a line, pixel by pixel too, and then its colours: done, or the refusal.
 fn checked_and_drawn(
     request: Request,
@@ -81,8 +91,7 @@ fn checked_and_drawn(
 {
     let setup = setup(request, store, table, normal, overlay, out.len());
     setup.line_check()?;
-    // The check found as many words.
-    let store: &[u32; STORE_WORDS] = store.try_into().unwrap();
+    let store = whole(store);
     let controls = setup.controls;
     let start = start(controls, table, setup.y)?;
     check_runs(controls, store, table, start)?;

@@ -23,9 +23,9 @@ pub(crate) fn check_runs(
     let mut from = 0;
     while x < controls.width {
         let found = id_at(controls, table, start, from, x)?;
-        if entry_of(controls, store, found.id).is_none() {
+        let Some(_) = entry_of(controls, store, found.id) else {
             return Err(Refusal::UndefinedEntry(x));
-        }
+        };
         x = run_end(controls, found.last);
         from = found.next;
     }
