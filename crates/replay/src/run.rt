@@ -13,16 +13,23 @@ ghost use Rattle.replay.specs.declared.course.Going.TheVariants.{Read};
 use crate::course::{Course, Going};
 use crate::input::read_on;
 use crate::messages::tell;
-use crate::rooms;
 use crate::streams::{Source, Streams};
 use crate::text::{write_out, written};
 use crate::turn::turn;
 use chip::change::QueueChange;
 use chip::state::State;
+use chip_registers::STORE_WORDS;
 use session::session::Session;
-use session_rooms::Counts;
+use session_records::{LONGEST_NORMAL, LONGEST_OVERLAY, LONGEST_TABLE};
+use session_rooms::{Counts, LONGEST_LINE};
 use std::io;
 use std::io::ErrorKind;
+
+// How many bytes of the file are read at most before a step: nearly twice as many as a record can have.
+const INPUT_ROOM: usize = 131072;
+
+// How many bytes of text wait at most: four times as many as an entry can have.
+const TEXT_ROOM: usize = 65536;
 
 // What the turns of a run leave.
 #[derive(Drop)]
@@ -129,13 +136,13 @@ pub(crate) fn run_file(rt: &HostRuntime, source: Source, name: &[u8]) -> io::Res
         listing: rt.stdout(),
         fault: io::Error::from(ErrorKind::Other),
     };
-    let mut input = rooms::input();
-    let mut lines = rooms::text();
-    let mut store = rooms::store();
-    let mut table = rooms::table();
-    let mut normal = rooms::normal();
-    let mut overlay = rooms::overlay();
-    let mut output = rooms::output();
+    let mut input = [0u8; INPUT_ROOM];
+    let mut lines = [0u8; TEXT_ROOM];
+    let mut store = [0u32; STORE_WORDS];
+    let mut table = [0u8; LONGEST_TABLE];
+    let mut normal = [0u8; LONGEST_NORMAL];
+    let mut overlay = [0u8; LONGEST_OVERLAY];
+    let mut output = [0u32; LONGEST_LINE];
     let left = run_turns(
         &mut streams,
         &mut input,
