@@ -13,8 +13,8 @@ pub fn corrected(gamma: &[u32], colour: Rgb) -> Rgb
     let green = colour.green as usize;
     let blue = colour.blue as usize;
     Rgb {
-        red: Rgb::of(gamma[red]).red,
-        green: Rgb::of(gamma[green]).green,
-        blue: Rgb::of(gamma[blue]).blue,
+        red: Rgb::from(gamma[red]).red,
+        green: Rgb::from(gamma[green]).green,
+        blue: Rgb::from(gamma[blue]).blue,
     }
 }

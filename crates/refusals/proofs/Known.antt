@@ -3,13 +3,12 @@ use Prim.Native.Nat.{ℕ}
 use mathlib.Core.Path.{◌≡◌, refl, ap, sym, ◌∙◌}
 use mathlib.Core.List.{List, [], ◌∷◌}
 use lib.ListN.{get_or}
+use Rattle.std.specs.Prelude.{Result, Ok, Err}
 use Rattle.rules.specs.Rule.{Outcome, ok, refused}
 use Rattle.rules.specs.Faults.{Numbered, place_in}
-use Rattle.refusals.specs.Refusal.{numbered, refusal_place, answer_outcome}
+use Rattle.refusals.specs.Refusal.{numbered, refusal_place, outcome_of}
 use Rattle.refusals.specs.declared.Refusal.{Refusal}
 use Rattle.refusals.specs.declared.Refusal.TheVariants.{NoRegister, ReadOnly, StrayBits, QueueFull, StoreLength, TableLength, NormalLength, OverlayLength, OutputLength, BelowActive, NoFrameEntry, NoLineEntry, UndefinedEntry, AboveTotal, BadState, WrongRecord, FileEnds, TooMuch}
-use Rattle.refusals.specs.declared.Answer.{Answer}
-use Rattle.refusals.specs.declared.Answer.TheVariants.{Done, Refused}
 
 -- the refusals of a wrong length, in the order of their places
 abbrev wrong_lengths : List Refusal
@@ -82,15 +81,15 @@ one_value (FileEnds number) = refl
 one_value (TooMuch number) = refl
 
 -- the answer that says so
-abbrev pub answer_of : Outcome Numbered (Unit {0}) → Answer
-answer_of (ok done) = Done
-answer_of (refused refusal) = Refused (refusal_of refusal)
+abbrev pub answer_of : {A : Type 0} → Outcome Numbered A → Result A Refusal
+answer_of (ok answer) = Ok answer
+answer_of (refused refusal) = Err (refusal_of refusal)
 
 -- an answer is known by what it says
-pub answer_back : (answer : Answer) → answer_of (answer_outcome answer) ≡ answer
-answer_back Done = refl
-answer_back (Refused refusal) = ap Refused (known refusal)
+pub answer_back : {A : Type 0} (answer : Result A Refusal) → answer_of (outcome_of answer) ≡ answer
+answer_back (Ok answer) = refl
+answer_back (Err refusal) = ap Err (known refusal)
 
 -- two answers that say the same are the same
-pub answer_known : (answer other : Answer) → answer_outcome answer ≡ answer_outcome other → answer ≡ other
+pub answer_known : {A : Type 0} (answer other : Result A Refusal) → outcome_of answer ≡ outcome_of other → answer ≡ other
 answer_known answer other says = sym (answer_back answer) ∙ ap answer_of says ∙ answer_back other

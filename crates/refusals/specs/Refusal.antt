@@ -1,11 +1,9 @@
 -- The table of refusals: the paper's number and values of each.
-use Rattle.std.specs.Prelude.{ℕ, Bool, [], ◌∷◌}
+use Rattle.std.specs.Prelude.{ℕ, Bool, [], ◌∷◌, Result, Ok, Err}
 use Rattle.rules.specs.Rule.{Outcome, ok, refused}
 use Rattle.rules.specs.Faults.{Numbered, Fault, place_in}
 use Rattle.refusals.specs.declared.Refusal.{Refusal}
 use Rattle.refusals.specs.declared.Refusal.TheVariants.{NoRegister, ReadOnly, StrayBits, QueueFull, StoreLength, TableLength, NormalLength, OverlayLength, OutputLength, BelowActive, NoFrameEntry, NoLineEntry, UndefinedEntry, AboveTotal, BadState, WrongRecord, FileEnds, TooMuch}
-use Rattle.refusals.specs.declared.Answer.{Answer}
-use Rattle.refusals.specs.declared.Answer.TheVariants.{Done, Refused}
 
 -- a number, with the place as the only value
 abbrev number_at : ℕ → ℕ → Numbered
@@ -44,7 +42,7 @@ refusal_place refusal = place_in (numbered refusal)
 abbrev pub fault : Refusal → Bool → Fault
 fault refusal holds = record { holds = holds; refusal = numbered refusal }
 
--- what the answer says: done, or a refusal's number and values
-abbrev pub answer_outcome : Answer → Outcome Numbered (Unit {0})
-answer_outcome Done = ok tt
-answer_outcome (Refused refusal) = refused (numbered refusal)
+-- what an answer says: what was asked for, or a refusal's number and values
+abbrev pub outcome_of : {A : Type 0} → Result A Refusal → Outcome Numbered A
+outcome_of (Ok answer) = ok answer
+outcome_of (Err refusal) = refused (numbered refusal)

@@ -46,15 +46,6 @@ pub enum Refusal {
     TooMuch(u32),
 }
 
-// What a call answers that has nothing to report: a write, a line, and every test whether a call may go on.
-#[derive(Drop)]
-pub enum Answer {
-    // the call was done, or may go on
-    Done,
-    // it is refused, for this reason
-    Refused(Refusal),
-}
-
 impl Refusal {
     // The paper's number of it.
     pub fn number(self) -> u32

@@ -5,8 +5,8 @@ use Rattle.words.proofs.bits.Reads as bits
 use Rattle.words.proofs.field.Reads as field
 use Rattle.words.proofs.be16.Reads as be16
 use Rattle.words.proofs.be32.Reads as be32
-use Rattle.words.proofs.Rgb.of.Reads as of
-use Rattle.words.proofs.Rgb.word.Reads as word
+use Rattle.words.proofs.RgbFromU32.from.Reads as of
+use Rattle.words.proofs.U32FromRgb.from.Reads as word
 
 -- bits of a word are one number
 pub bits_unique : OneAnswer bits.Post

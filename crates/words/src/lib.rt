@@ -23,20 +23,13 @@ pub fn field(word: u32, high: u32, low: u32) -> u32
     bits(word, low, high + 1 - low)
 }
 
-// A byte, as a number with room above it.
-fn wide(byte: u8) -> u32
-    ensures { (result ≡ byte) × (result < 2 ^ 8) }
-{
-    byte as u32
-}
-
 // The 16-bit number at a place of lent bytes.
 pub fn be16(bytes: &[u8], at: usize) -> u32
     requires { at + 2 ≤ length bytes.now }
     ensures { (result ≡ big_endian bytes.now at 2) × (result < 2 ^ 16) }
 {
-    let high = wide(bytes[at]);
-    let low = wide(bytes[at + 1]);
+    let high = u32::from(bytes[at]);
+    let low = u32::from(bytes[at + 1]);
     high * 256 + low
 }
 
@@ -51,7 +44,7 @@ pub fn be32(bytes: &[u8], at: usize) -> u32
 }
 
 // A colour of three channels.
-#[derive(Drop)]
+#[derive(Clone, Copy)]
 pub struct Rgb {
     // Red, in bits 23..16 of a word.
     pub red: u8,
@@ -61,9 +54,11 @@ pub struct Rgb {
     pub blue: u8,
 }
 
-impl Rgb {
+impl From<u32> for Rgb {
+    ghost from_gives = { λ word colour. colour ≡ channels_of word };
+
     // The channels of a map, gamma or output word.
-    pub fn of(word: u32) -> Self
+    fn from(word: u32) -> Self
         ensures { result ≡ channels_of word }
     {
         Self {
@@ -72,11 +67,15 @@ impl Rgb {
             blue: field(word, 7, 0) as u8,
         }
     }
+}
+
+impl From<Rgb> for u32 {
+    ghost from_gives = { λ colour word. (word ≡ word_of colour) × (word < 2 ^ 24) };
 
     // The channels as a word, its top byte 0.
-    pub fn word(self) -> u32
-        ensures { (result ≡ word_of self) × (result < 2 ^ 24) }
+    fn from(colour: Rgb) -> Self
+        ensures { (result ≡ word_of colour) × (result < 2 ^ 24) }
     {
-        wide(self.red) * 65536 + wide(self.green) * 256 + wide(self.blue)
+        u32::from(colour.red) * 65536 + u32::from(colour.green) * 256 + u32::from(colour.blue)
     }
 }
