@@ -136,6 +136,7 @@ pub(crate) fn run_file(rt: &HostRuntime, source: Source, name: &[u8]) -> io::Res
         listing: rt.stdout(),
         fault: io::Error::from(ErrorKind::Other),
     };
+    // The rooms, made anew for each file.
     let mut input = [0u8; INPUT_ROOM];
     let mut lines = [0u8; TEXT_ROOM];
     let mut store = [0u32; STORE_WORDS];

@@ -12,7 +12,7 @@ use crate::course::{Course, Going};
 use chip::change::Change;
 use chip::state::State;
 use session::step::record_step;
-use session_answers::{Adds, StepAnswer};
+use session_answers::StepAnswer;
 use session_listing::entry::ListingEntry;
 use session_listing::render::{FIRST_LINE_ROOM, PIXEL_ROOM, render};
 use session_rooms::Counts;
@@ -66,8 +66,8 @@ fn put_added(answer: StepAnswer, output: &[u32], lines: &mut [u8], put: usize) -
     ensures { (result, lines.new) ≡ put_behind lines.old put (added_by output.now (step_outcome answer)) }
 {
     match answer.adds() {
-        Adds::One(entry) => put_entry(entry, output, lines, put),
-        Adds::Nothing => put,
+        Some(entry) => put_entry(entry, output, lines, put),
+        None => put,
     }
 }
 
