@@ -1,5 +1,5 @@
 -- What the functions inside say.
-use Rattle.std.specs.Prelude.{ℕ, List}
+use Rattle.std.specs.Prelude.{ℕ, List, unwrap_or}
 use Rattle.rules.specs.Rule.{Outcome, ok, refused}
 use Rattle.rules.specs.Faults.{Numbered}
 use Rattle.c_numbers.specs.Numbers.{refused_by}
@@ -7,19 +7,12 @@ use Rattle.c_numbers.specs.declared.Refused.{Refused}
 use Rattle.session_listing.specs.Text.{EntrySays}
 use Rattle.session_listing.specs.Text as entry
 use Rattle.session_listing.specs.Room.{rendered}
-use Rattle.session_listing.specs.declared.render.Rendered.{Rendered}
-use Rattle.session_listing.specs.declared.render.Rendered.TheVariants.{To, NoRoom}
 use Rattle.session_answers.specs.Status.{Status, listed, ended, needs_more, stopped}
 use Rattle.c_session.specs.Steps.{short_text}
 
--- how many bytes were put
-abbrev pub put_of : Rendered → ℕ
-put_of (To end) = end
-put_of NoRoom = 0
-
 -- an entry rendered to the front: how many bytes were put, and the lent bytes after it
 abbrev pub put_entry : EntrySays → List ℕ → List ℕ → ℕ × List ℕ
-put_entry entry output lent = let after = rendered entry output lent 0 in (put_of after.0, after.1)
+put_entry entry output lent = let after = rendered entry output lent 0 in (unwrap_or after.0 0, after.1)
 
 -- the text of what a call comes to, put at the front: how many bytes, and the lent bytes after it
 abbrev pub put_text : Outcome Numbered Status → List ℕ → List ℕ → ℕ × List ℕ

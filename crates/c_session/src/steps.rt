@@ -16,7 +16,7 @@ use session::session::Session;
 use session::step::record_step;
 use session_answers::StepAnswer;
 use session_listing::entry::ListingEntry;
-use session_listing::render::{FIRST_LINE_ROOM, PIXEL_ROOM, Rendered, render};
+use session_listing::render::{FIRST_LINE_ROOM, PIXEL_ROOM, render};
 use session_rooms::{Counts, LONGEST_LINE, step_check};
 
 // How many bytes of text are lent at least: every entry has room in them.
@@ -113,10 +113,7 @@ fn status_in_numbers(answer: StepAnswer) -> StatusNumbers
 fn put_entry(entry: ListingEntry, output: &[u32], text: &mut [u8]) -> usize
     ensures { (result, text.new) ≡ put_entry (entry_says entry) output.now text.old }
 {
-    match render(entry, output, text, 0) {
-        Rendered::To(end) => end,
-        Rendered::NoRoom => 0,
-    }
+    render(entry, output, text, 0).unwrap_or(0)
 }
 
 // The text of what an answer lists, where there is room. Answers how many bytes were put.

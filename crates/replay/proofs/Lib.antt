@@ -1,4 +1,3 @@
-pub mod Added
 pub mod Front
 pub mod Turns
 pub mod Reading

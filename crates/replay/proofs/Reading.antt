@@ -3,15 +3,12 @@ use Prim.Native.Nat.{ℕ, suc, ◌+◌, ◌≤◌}
 use mathlib.Core.Path.{◌≡◌, refl, sym, ap, ap₂, ◌∙◌}
 use mathlib.Core.Bool.{true, false}
 use mathlib.Core.List.{List, ◌++◌}
-use mathlib.Core.Logic.{◌⊎◌, inl, inr}
 use native.Mathlib.Omega.{arith}
 use borrow.Author.Tests.{ne_eqb}
 use lib.ListN.{length, take, drop, length-drop}
-use lib.Seq.{length-slice, length-take-le, take_at, take-add}
-use Rattle.replay.specs.Run.{unread_in, to_front, taken_in, nothing_read}
-use Rattle.replay.specs.Inner.{AfterReading, took, again, failed}
-use Rattle.replay.specs.declared.course.Going.{Going}
-use Rattle.replay.specs.declared.course.Going.TheVariants.{On, Unread}
+use lib.Seq.{length-take-le, take_at, take-add}
+use Rattle.replay.specs.Run.{unread_in, to_front, taken_in}
+use Rattle.replay.specs.Inner.{AfterReading, took}
 use Rattle.replay.specs.declared.course.Course.{Course}
 
 module _ (course : Course) (input : List ℕ) (inside : course.to ≤ length input) {kept : ℕ} {moved : List ℕ}
@@ -20,10 +17,6 @@ module _ (course : Course) (input : List ℕ) (inside : course.to ≤ length inp
   pub kept_many : kept ≡ length (unread_in course input)
   kept_many = ap (λ (all : ℕ × List ℕ). all.0) front
 
-  -- they fit into the input
-  pub kept_few : kept ≤ length input
-  kept_few = omega (arith, kept_many, length-slice course.from course.to input inside, inside)
-
   -- they are the unread ones
   kept_front : take kept moved ≡ unread_in course input
   kept_front =
@@ -31,11 +24,6 @@ module _ (course : Course) (input : List ℕ) (inside : course.to ≤ length inp
       (take_at (unread_in course input) (drop (length (unread_in course input)) input) (length (unread_in course input)) refl)
 
   module _ {more : List ℕ} (stays : take kept more ≡ take kept moved) where
-    -- a read that put nothing
-    pub read_none : {going : Going} {next : Course} → (going ≡ On) ⊎ (going ≡ Unread) → next ≡ nothing_read course kept going → AfterReading course input next more
-    read_none (inl on) is = again (is ∙ ap₂ (nothing_read course) kept_many on) (rw is (stays ∙ kept_front))
-    read_none (inr off) is = failed (is ∙ ap₂ (nothing_read course) kept_many off) (rw is (stays ∙ kept_front))
-
     -- a read that put so many bytes behind them
     pub read_some : (count : ℕ) {next : Course} → kept + count ≤ length more → next ≡ taken_in course kept count → AfterReading course input next more
     read_some count there is =

@@ -52,13 +52,7 @@ impl Course {
     pub(crate) fn going_so(self, going: Going) -> Self
         ensures { result ≡ going_so self going }
     {
-        Self {
-            from: self.from,
-            to: self.to,
-            last: self.last,
-            put: self.put,
-            going,
-        }
+        Self { going, ..self }
     }
 
     // With no text that waits, goes on so.
@@ -66,11 +60,9 @@ impl Course {
         ensures { result ≡ written_out self going }
     {
         Self {
-            from: self.from,
-            to: self.to,
-            last: self.last,
             put: 0,
             going,
+            ..self
         }
     }
 
@@ -78,14 +70,6 @@ impl Course {
     pub(crate) fn goes_on(self) -> bool
         ensures { result ≡ goes_on_turning self.going }
     {
-        let going = self.going;
-        match going {
-            Going::On => true,
-            Going::Full => false,
-            Going::Read => false,
-            Going::Over => false,
-            Going::Unread => false,
-            Going::Unwritten => false,
-        }
+        matches!(self.going, Going::On)
     }
 }

@@ -18,14 +18,9 @@ fn to_front(input: &mut [u8], from: usize, to: usize) -> usize
     if from == 0 {
         return to;
     }
-    let mut next = from;
-    let mut count = 0;
-    while next < to {
-        input[count] = input[next];
-        next += 1;
-        count += 1;
-    }
-    count
+    let start = from.min(to);
+    input.copy_within(start..to, 0);
+    to - start
 }
 
 // After a read of so many bytes behind those kept.

@@ -4,7 +4,6 @@
 mod course;
 mod input;
 mod messages;
-mod rooms;
 mod run;
 mod streams;
 mod text;

@@ -13,16 +13,23 @@ ghost use Rattle.replay.specs.declared.course.Going.TheVariants.{Read};
 use crate::course::{Course, Going};
 use crate::input::read_on;
 use crate::messages::tell;
-use crate::rooms;
 use crate::streams::{Source, Streams};
 use crate::text::{write_out, written};
 use crate::turn::turn;
 use chip::change::QueueChange;
 use chip::state::State;
+use chip_registers::STORE_WORDS;
 use session::session::Session;
-use session_rooms::Counts;
+use session_records::{LONGEST_NORMAL, LONGEST_OVERLAY, LONGEST_TABLE};
+use session_rooms::{Counts, LONGEST_LINE};
 use std::io;
 use std::io::ErrorKind;
+
+// How many bytes of the file are read at most before a step: nearly twice as many as a record can have.
+const INPUT_ROOM: usize = 131072;
+
+// How many bytes of text wait at most: four times as many as an entry can have.
+const TEXT_ROOM: usize = 65536;
 
 // What the turns of a run leave.
 #[derive(Drop)]
@@ -49,18 +56,15 @@ fn served(streams: &mut Streams, input: &mut [u8], lines: &[u8], course: Course)
     requires { (course.to ≤ length input.old) × (course.going ≡ Read → length (unread_in course input.old) < length input.old) }
     ensures { AfterServing course.going course input.old result input.new }
 {
-    let going = course.going;
-    match going {
-        Going::On => course,
+    match course.going {
+        Going::On | Going::Unread | Going::Unwritten => course,
         Going::Full => written(streams, lines, course, Going::On),
         Going::Read => read_after(streams, input, lines, course),
         Going::Over => written(streams, lines, course, Going::Over),
-        Going::Unread => course,
-        Going::Unwritten => course,
     }
 }
 
-// Makes turns, and does after each what it asks for. A proved loop has to end, and nothing says that a file does, so the turns are counted down.
+// Makes turns, and does after each what it asks for. A proved loop has to end, and nothing says that a file does, so the turns are counted.
 fn run_turns(
     streams: &mut Streams,
     input: &mut [u8],
@@ -82,14 +86,15 @@ fn run_turns(
     };
     let mut records = 0;
     let mut course = Course::start();
-    let mut turns = u64::MAX;
-    while turns > 0 && course.goes_on() {
+    for _ in 0..u64::MAX {
+        if !course.goes_on() {
+            break;
+        }
         let turned = turn(
             state, counts, records, course, input, lines, store, table, normal, overlay, output,
         );
         let asks = turned.course;
         course = served(streams, input, lines, asks);
-        turns -= 1;
         counts = turned.counts;
         records = turned.records;
         // As `State::changed` has it, but in place, so that a queue that stays is not copied each turn.
@@ -116,11 +121,10 @@ fn run_turns(
 
 // Says why a file could not be read. Answers with the error by which no more can be written, where there is one.
 fn finish(rt: &HostRuntime, name: &[u8], going: Going, fault: io::Error) -> io::Result<()> {
-    if let Going::Unwritten = going {
-        return Err(fault);
-    }
-    if let Going::Unread = going {
-        tell(rt, name, fault);
+    match going {
+        Going::Unwritten => return Err(fault),
+        Going::Unread => tell(rt, name, fault),
+        _ => {}
     }
     Ok(())
 }
@@ -132,13 +136,14 @@ pub(crate) fn run_file(rt: &HostRuntime, source: Source, name: &[u8]) -> io::Res
         listing: rt.stdout(),
         fault: io::Error::from(ErrorKind::Other),
     };
-    let mut input = rooms::input();
-    let mut lines = rooms::text();
-    let mut store = rooms::store();
-    let mut table = rooms::table();
-    let mut normal = rooms::normal();
-    let mut overlay = rooms::overlay();
-    let mut output = rooms::output();
+    // The rooms, made anew for each file.
+    let mut input = [0u8; INPUT_ROOM];
+    let mut lines = [0u8; TEXT_ROOM];
+    let mut store = [0u32; STORE_WORDS];
+    let mut table = [0u8; LONGEST_TABLE];
+    let mut normal = [0u8; LONGEST_NORMAL];
+    let mut overlay = [0u8; LONGEST_OVERLAY];
+    let mut output = [0u32; LONGEST_LINE];
     let left = run_turns(
         &mut streams,
         &mut input,
@@ -149,7 +154,5 @@ pub(crate) fn run_file(rt: &HostRuntime, source: Source, name: &[u8]) -> io::Res
         &mut overlay,
         &mut output,
     );
-    let course = left.course;
-    let going = course.going;
-    finish(rt, name, going, streams.fault)
+    finish(rt, name, left.course.going, streams.fault)
 }

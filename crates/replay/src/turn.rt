@@ -12,9 +12,9 @@ use crate::course::{Course, Going};
 use chip::change::Change;
 use chip::state::State;
 use session::step::record_step;
-use session_answers::{Adds, StepAnswer};
+use session_answers::StepAnswer;
 use session_listing::entry::ListingEntry;
-use session_listing::render::{FIRST_LINE_ROOM, PIXEL_ROOM, Rendered, render};
+use session_listing::render::{FIRST_LINE_ROOM, PIXEL_ROOM, render};
 use session_rooms::Counts;
 
 // What a turn leaves.
@@ -34,17 +34,9 @@ pub(crate) struct Turned {
 fn has_room(lines: usize, put: usize, output: usize) -> bool
     ensures { result ≡ has_room lines put output }
 {
-    if lines < put {
-        return false;
-    }
-    let left = lines - put;
-    if left < FIRST_LINE_ROOM {
-        return false;
-    }
-    if (left - FIRST_LINE_ROOM) / PIXEL_ROOM < output {
-        return false;
-    }
-    true
+    put <= lines
+        && FIRST_LINE_ROOM <= lines - put
+        && output <= (lines - put - FIRST_LINE_ROOM) / PIXEL_ROOM
 }
 
 // How the run goes on after an answer.
@@ -54,10 +46,10 @@ fn going_after(answer: StepAnswer) -> Going
     if answer.over() {
         return Going::Over;
     }
-    if let StepAnswer::More = answer {
-        return Going::Read;
+    match answer {
+        StepAnswer::More => Going::Read,
+        _ => Going::On,
     }
-    Going::On
 }
 
 // Puts an entry's text behind the text that waits. Answers where it ends.
@@ -65,10 +57,7 @@ fn put_entry(entry: ListingEntry, output: &[u32], lines: &mut [u8], put: usize) 
     requires { put + room_of (length output.now) ≤ length lines.old }
     ensures { (result, lines.new) ≡ put_behind lines.old put (text (entry_says entry) output.now) }
 {
-    match render(entry, output, lines, put) {
-        Rendered::To(next) => next,
-        Rendered::NoRoom => put,
-    }
+    render(entry, output, lines, put).unwrap_or(put)
 }
 
 // Puts the text that an answer adds behind the text that waits. Answers where it ends.
@@ -77,8 +66,8 @@ fn put_added(answer: StepAnswer, output: &[u32], lines: &mut [u8], put: usize) -
     ensures { (result, lines.new) ≡ put_behind lines.old put (added_by output.now (step_outcome answer)) }
 {
     match answer.adds() {
-        Adds::One(entry) => put_entry(entry, output, lines, put),
-        Adds::Nothing => put,
+        Some(entry) => put_entry(entry, output, lines, put),
+        None => put,
     }
 }
 
@@ -107,12 +96,11 @@ pub(crate) fn turn(
             course: course.going_so(Going::Full),
         };
     }
-    let to = course.to;
     let done = record_step(
         state,
         counts,
         records,
-        &input[0..to],
+        &input[..course.to],
         course.from,
         course.last,
         store,
@@ -131,10 +119,9 @@ pub(crate) fn turn(
         records: done.records,
         course: Course {
             from: done.place,
-            to: course.to,
-            last: course.last,
             put: end,
             going: going_after(answer),
+            ..course
         },
     }
 }

@@ -7,9 +7,5 @@ pub(crate) fn keep(room: &mut [u8], at: usize, bytes: &[u8])
     requires { at + length bytes.now ≤ length room.old }
     ensures { room.new ≡ paste room.old at bytes.now (length bytes.now) }
 {
-    let mut i = 0;
-    while i < bytes.len() {
-        room[at + i] = bytes[i];
-        i += 1;
-    }
+    room[at..at + bytes.len()].copy_from_slice(bytes);
 }

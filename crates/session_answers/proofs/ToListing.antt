@@ -3,16 +3,16 @@ use Prim.Native.Nat.{ℕ}
 use mathlib.Core.Path.{◌≡◌, refl, ap, sym}
 use mathlib.Core.Bool.{false, not}
 use mathlib.Core.List.{List, []}
+use Rattle.std.specs.Prelude.{Option, Some, None}
 use Rattle.rules.specs.Rule.{Outcome, ok, refused}
 use Rattle.rules.specs.Faults.{Numbered}
 use Rattle.rules.proofs.Cases.{impossible}
 use Rattle.session_listing.specs.Text.{entry_says, text}
+use Rattle.session_listing.specs.declared.entry.ListingEntry.{ListingEntry}
 use Rattle.session_answers.specs.Status.{Status, needs_more, text_of, goes_on, step_outcome}
 use Rattle.session_answers.specs.Answers.{adds, over}
 use Rattle.session_answers.specs.declared.StepAnswer.{StepAnswer}
 use Rattle.session_answers.specs.declared.StepAnswer.TheVariants as answer
-use Rattle.session_answers.specs.declared.Adds.{Adds}
-use Rattle.session_answers.specs.declared.Adds.TheVariants as added
 
 -- what an answer comes to, where it is no refusal
 abbrev pub status_of : Status → Outcome Numbered Status → Status
@@ -20,9 +20,9 @@ status_of other (ok status) = status
 status_of other (refused refusal) = other
 
 -- the text of what an answer adds
-abbrev added_text : List ℕ → Adds → List ℕ
-added_text output (added.One entry) = text (entry_says entry) output
-added_text output added.Nothing = []
+abbrev added_text : List ℕ → Option ListingEntry → List ℕ
+added_text output (Some entry) = text (entry_says entry) output
+added_text output None = []
 
 -- an answer that is no refusal of the call adds the text of what the step comes to
 pub adds_text : (output : List ℕ) (answer : StepAnswer) {status : Status} → step_outcome answer ≡ ok status → added_text output (adds answer) ≡ text_of output status
@@ -41,7 +41,7 @@ over_goes (answer.Stopped refusal) is going = ap (λ (outcome : Outcome Numbered
 over_goes (answer.Refused refusal) is going = impossible cc
 
 -- an answer that waits adds nothing, and the run isn't over with it
-pub waits_adds : (answer : StepAnswer) → step_outcome answer ≡ ok needs_more → (adds answer ≡ added.Nothing) × (over answer ≡ false)
+pub waits_adds : (answer : StepAnswer) → step_outcome answer ≡ ok needs_more → (adds answer ≡ None) × (over answer ≡ false)
 waits_adds (answer.Listed entry) is = impossible cc
 waits_adds answer.End is = impossible cc
 waits_adds answer.More is = (refl, refl)

@@ -22,26 +22,15 @@ pub enum StepAnswer {
     Refused(Refusal),
 }
 
-// What an answer adds to the listing.
-#[derive(Drop)]
-pub enum Adds {
-    // One entry.
-    One(ListingEntry),
-    // No text.
-    Nothing,
-}
-
 impl StepAnswer {
-    // What it adds to the listing.
-    pub fn adds(self) -> Adds
+    // The entry that it adds to the listing, where it adds one.
+    pub fn adds(self) -> Option<ListingEntry>
         ensures { result ≡ adds self }
     {
         match self {
-            StepAnswer::Listed(entry) => Adds::One(entry),
-            StepAnswer::End => Adds::Nothing,
-            StepAnswer::More => Adds::Nothing,
-            StepAnswer::Stopped(refusal) => Adds::One(ListingEntry::Refused(refusal)),
-            StepAnswer::Refused(refusal) => Adds::One(ListingEntry::Refused(refusal)),
+            Self::Listed(entry) => Some(entry),
+            Self::Stopped(refusal) | Self::Refused(refusal) => Some(ListingEntry::Refused(refusal)),
+            Self::End | Self::More => None,
         }
     }
 
@@ -49,12 +38,6 @@ impl StepAnswer {
     pub fn over(self) -> bool
         ensures { result ≡ over self }
     {
-        match self {
-            StepAnswer::Listed(_) => false,
-            StepAnswer::End => true,
-            StepAnswer::More => false,
-            StepAnswer::Stopped(_) => true,
-            StepAnswer::Refused(_) => true,
-        }
+        matches!(self, Self::End | Self::Stopped(_) | Self::Refused(_))
     }
 }

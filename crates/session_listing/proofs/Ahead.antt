@@ -1,6 +1,6 @@
 -- Bytes put with the place after them open. Assumes nothing.
 use Prim.Native.Nat.{ℕ, suc, ◌+◌, ◌<◌}
-use mathlib.Core.Path.{◌≡◌, refl, ap, sym, ◌∙◌}
+use mathlib.Core.Path.{◌≡◌, ap, sym, ◌∙◌}
 use mathlib.Core.List.{List, [], ◌∷◌, ◌++◌, append_assoc}
 use native.Mathlib.Nat.{add-zero, add-suc, suc-add}
 use native.Mathlib.Omega.{arith}
@@ -23,10 +23,6 @@ ahead_one bytes last {lent} {place = place} put after = record {
   after = after;
   long = put_length put;
 }
-
--- no bytes are put by leaving all as it was
-pub ahead_none : (lent : List ℕ) (place : ℕ) → PutAhead lent place [] lent place
-ahead_none lent place = record { covered = λ byte more. refl; after = sym (add-zero place); long = refl }
 
 module _ {lent bytes left : List ℕ} {place next : ℕ} (ahead : PutAhead lent place bytes left next) where
   -- equal bytes are put by the same stores

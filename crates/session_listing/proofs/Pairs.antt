@@ -8,6 +8,7 @@ use lib.ListN.{get_or}
 use Rattle.session_listing.specs.Digits.{digit, hex}
 use Rattle.session_listing.specs.Text.{ended}
 use Rattle.session_listing.specs.Inner.{pairs_from, pair_table}
+use Rattle.session_listing.specs.declared.pixel_lines.TheConstants.{PAIRS}
 use Rattle.session_listing.proofs.Texts.{six_digits}
 
 -- at a place of a table stand the two digits of a byte, and two line feeds
@@ -44,18 +45,23 @@ pair_from (suc count) first (suc byte) below =
 pair_in : (count byte : ℕ) → byte < count → Pair (pairs_from 0 count) (4 * byte) byte
 pair_in count byte below = rw zero-add at (pair_from count 0 byte below)
 
+-- the literal is the table
+pub table_is : PAIRS ≡ pair_table
+unfolding pair_table
+table_is = refl
+
 -- the pair of each byte stands at four times it
 pair_at : (byte : ℕ) → byte < 256 → Pair pair_table (4 * byte) byte
 unfolding pair_table
 pair_at byte below = pair_in 256 byte below
 
 -- the pairs of a colour's bytes, the last with its line feeds, are its digits, its line's end and a line feed more
-pub colour_pairs : {table : List ℕ} (colour : ℕ) → table ≡ pair_table
-    → get_or table (4 * (colour / 65536 % 256)) 0 ∷ get_or table (4 * (colour / 65536 % 256) + 1) 0 ∷ get_or table (4 * (colour / 256 % 256)) 0
-    ∷ get_or table (4 * (colour / 256 % 256) + 1) 0 ∷ get_or table (4 * (colour % 256)) 0 ∷ get_or table (4 * (colour % 256) + 1) 0
-    ∷ get_or table (4 * (colour % 256) + 2) 0 ∷ get_or table (4 * (colour % 256) + 3) 0 ∷ []
+pub colour_pairs : (colour : ℕ)
+    → get_or PAIRS (4 * (colour / 65536 % 256)) 0 ∷ get_or PAIRS (4 * (colour / 65536 % 256) + 1) 0 ∷ get_or PAIRS (4 * (colour / 256 % 256)) 0
+    ∷ get_or PAIRS (4 * (colour / 256 % 256) + 1) 0 ∷ get_or PAIRS (4 * (colour % 256)) 0 ∷ get_or PAIRS (4 * (colour % 256) + 1) 0
+    ∷ get_or PAIRS (4 * (colour % 256) + 2) 0 ∷ get_or PAIRS (4 * (colour % 256) + 3) 0 ∷ []
     ≡ ended (hex colour) ++ 10 ∷ []
-colour_pairs colour is =
+colour_pairs colour =
     let red = pair_at (colour / 65536 % 256) (omega arith) in
     let green = pair_at (colour / 256 % 256) (omega arith) in
     let blue = pair_at (colour % 256) (omega arith) in
@@ -65,6 +71,6 @@ colour_pairs colour is =
     let two : colour / 256 % 256 % 16 ≡ colour / 256 % 16 = omega arith in
     let one : colour % 256 / 16 ≡ colour / 16 % 16 = omega arith in
     let zero : colour % 256 % 16 ≡ colour % 16 = omega arith in
-    rw (is, blue.end, blue.ahead)
+    rw (table_is, blue.end, blue.ahead)
     (ap (λ (line : List ℕ). line ++ 10 ∷ [])
     (six_digits colour (red.high ∙ ap digit five) (red.low ∙ ap digit four) (green.high ∙ ap digit three) (green.low ∙ ap digit two) (blue.high ∙ ap digit one) (blue.low ∙ ap digit zero)))

@@ -2,11 +2,13 @@
 use Prim.Native.Nat.{ℕ, zero, suc, ◌+◌, ◌*◌, ◌-◌, ◌≤◌, ◌<◌}
 use mathlib.Core.Path.{◌≡◌, refl, ap, sym, ◌∙◌}
 use mathlib.Core.List.{List, [], ◌∷◌, ◌++◌, append_assoc, append-nil}
-use native.Mathlib.Nat.{add-zero}
 use native.Mathlib.Numerals.{add-one}
 use native.Mathlib.Omega.{arith}
-use lib.ListN.{length, take, drop, get_or, length-drop}
-use lib.Seq.{take-suc, take-take, take-add, get_or-drop}
+use lib.ListN.{length, take, drop, get_or}
+use lib.Seq.{take-suc, take-add, take_all, take-take}
+use Rattle.std.proofs.lemmas.List.{take_rest, take-append-drop}
+use Rattle.std.specs.List.{concat}
+use Rattle.std.specs.Simd.{first_chunks}
 use Rattle.session_listing.specs.Digits.{hex}
 use Rattle.session_listing.specs.Text.{ended, pixels}
 
@@ -25,31 +27,32 @@ pixels_append (colour ∷ colours) others = rw (pixels_append colours others) (s
 pub pixels_more : (colours : List ℕ) (i : ℕ) → i < length colours → pixels (take i colours) ++ ended (hex (get_or colours i 0)) ≡ pixels (take (i + 1) colours)
 pixels_more colours i more = rw (add-one i, take-suc colours i 0 more, pixels_append, append-nil)
 
--- pixels from one on stand behind those before it
-pub pixels_part : (colours : List ℕ) (from count : ℕ) → pixels (take from colours) ++ pixels (take count (drop from colours)) ≡ pixels (take (from + count) colours)
-pixels_part colours from count = rw (take-add from count colours, pixels_append)
+-- the pixels of four colours, one behind another
+pub four_pixels : (colours : List ℕ) → length colours ≡ 4
+    → ended (hex (get_or colours 0 0)) ++ ended (hex (get_or colours 1 0)) ++ ended (hex (get_or colours 2 0)) ++ ended (hex (get_or colours 3 0)) ≡ pixels colours
+four_pixels colours four =
+    rw (pixels_more colours 0 (omega arith), pixels_more colours 1 (omega arith), pixels_more colours 2 (omega arith), pixels_more colours 3 (omega arith), ← four, take_all (length colours) colours (omega arith))
 
--- the pixels of the rest of a list, up to so many, stand behind those before it
-pub pixels_rest : (colours : List ℕ) (from count : ℕ) → from ≤ count → count ≤ length colours
-    → pixels (take from colours) ++ pixels (take (count - from) (take (length colours - from) (drop from colours))) ≡ pixels (take count colours)
-pixels_rest colours from count begun room =
-    let all : from + (count - from) ≡ count = omega arith in
-    rw (take-take (count - from) (length colours - from) (drop from colours) (omega arith)) (pixels_part colours from (count - from) ∙ rw all)
+-- the pixels of the next four stand behind those of the fours before it
+pub fours_more : (fours : List (List ℕ)) (i : ℕ) → i < length fours → pixels (concat (take i fours)) ++ pixels (get_or fours i []) ≡ pixels (concat (take (i + 1) fours))
+fours_more [] i more = absurd (omega arith)
+fours_more (four ∷ fours) zero more = rw append-nil
+fours_more (four ∷ fours) (suc i) more =
+    let next : suc i + 1 ≡ suc (i + 1) = omega arith in
+    rw (next, pixels_append four (concat (take i fours)), append_assoc (pixels four) (pixels (concat (take i fours))) (pixels (get_or fours i [])), fours_more fours i (omega arith))
+    (sym (pixels_append four (concat (take (i + 1) fours))))
 
--- the first four pixels, one behind another
-first_four : (colours : List ℕ) → 4 ≤ length colours
-    → ended (hex (get_or colours 0 0)) ++ ended (hex (get_or colours 1 0)) ++ ended (hex (get_or colours 2 0)) ++ ended (hex (get_or colours 3 0)) ≡ pixels (take 4 colours)
-first_four colours room =
-    rw (pixels_more colours 0 (omega arith), pixels_more colours 1 (omega arith), pixels_more colours 2 (omega arith), pixels_more colours 3 (omega arith))
+-- the fours at the front of a list, joined, are as many of its elements
+fours_joined : (count : ℕ) (colours : List ℕ) → concat (first_chunks 4 count colours) ≡ take (4 * count) colours
+fours_joined zero colours = refl
+fours_joined (suc count) colours = let all : 4 * suc count ≡ 4 + 4 * count = omega arith in rw (all, take-add 4 (4 * count) colours, fours_joined count (drop 4 colours))
 
--- four pixels from one on, one behind another
-pub four_pixels : (colours : List ℕ) (from : ℕ) → from + 4 ≤ length colours
-    → ended (hex (get_or colours from 0)) ++ ended (hex (get_or colours (from + 1) 0)) ++ ended (hex (get_or colours (from + 2) 0)) ++ ended (hex (get_or colours (from + 3) 0))
-    ≡ pixels (take 4 (drop from colours))
-four_pixels colours from room =
-    let first : get_or (drop from colours) 0 0 ≡ get_or colours from 0 = get_or-drop from colours 0 0 ∙ rw add-zero in
-    rw (← first, ← get_or-drop from colours 1 0, ← get_or-drop from colours 2 0, ← get_or-drop from colours 3 0)
-    (first_four (drop from colours) (simp length-drop (omega arith)))
+-- the pixels of the rest of a list stand behind those of fours at its front
+pub fours_rest : (fours : List (List ℕ)) (colours : List ℕ) (most : ℕ) → 4 * length fours ≤ most → fours ≡ first_chunks 4 (length fours) (take most colours)
+    → pixels (concat fours) ++ pixels (take (length colours - 4 * length fours) (drop (4 * length fours) colours)) ≡ pixels colours
+fours_rest fours colours most fits is =
+    let front : concat fours ≡ take (4 * length fours) colours = ap concat is ∙ fours_joined (length fours) (take most colours) ∙ take-take (4 * length fours) most colours fits in
+    rw (front, take_rest, ← pixels_append (take (4 * length fours) colours) (drop (4 * length fours) colours), take-append-drop (4 * length fours) colours)
 
 -- taking as many as were taken of a list takes the same
 pub take_taken : (width : ℕ) (output : List ℕ) → take (length (take width output)) output ≡ take width output

@@ -1,12 +1,14 @@
 -- Bytes put one behind another. Assumes nothing.
-use Prim.Native.Nat.{ℕ, suc, ◌+◌, ◌*◌, ◌≤◌, ◌<◌}
-use mathlib.Core.Path.{◌≡◌, refl, sym, ◌∙◌}
+use Prim.Native.Nat.{ℕ, suc, ◌+◌, ◌≤◌, ◌<◌}
+use mathlib.Core.Path.{◌≡◌, refl, ◌∙◌}
 use mathlib.Core.List.{List, [], ◌∷◌, ◌++◌}
-use native.Mathlib.Nat.{add-zero, add-suc, suc-add, mul-zero, mul-suc}
+use native.Mathlib.Nat.{add-zero, add-suc, suc-add}
 use native.Mathlib.Numerals.{add-one}
 use native.Mathlib.Omega.{arith}
-use lib.ListN.{length, set, take, length-append}
-use lib.Seq.{sets, length-sets, sets-eq}
+use lib.ListN.{length, set, length-append}
+use lib.Seq.{sets, length-sets, sets-eq, take-length}
+use borrow.Rule.Slice.PartMut.{put_mid}
+use Rattle.std.proofs.lemmas.Slice.{put_mid-paste}
 use Rattle.session_listing.specs.Room.{placed}
 use Rattle.session_listing.specs.Inner.{Put}
 
@@ -15,13 +17,18 @@ sets_append : (bytes others lent : List ℕ) (place : ℕ) → sets (sets lent p
 sets_append [] others lent place = rw add-zero
 sets_append (byte ∷ bytes) others lent place = rw (add-suc, ← suc-add) (sets_append bytes others (set lent place byte) (suc place))
 
--- no bytes are put by leaving all as it was
-put_none : (lent : List ℕ) (place : ℕ) → place ≤ length lent → Put lent place [] lent place
-put_none lent place fits = record { stored = refl; after = sym (add-zero place); fits = fits }
-
 -- one store puts one byte
 pub put_one : (lent : List ℕ) (place byte : ℕ) {next : ℕ} → place < length lent → next ≡ place + 1 → Put lent place (byte ∷ []) (set lent place byte) next
 put_one lent place byte inside after = record { stored = refl; after = after; fits = omega arith }
+
+-- bytes written over a part of lent ones are put
+pub put_part : {lent bytes part : List ℕ} {place count next : ℕ} → part ≡ bytes → length bytes ≡ count → next ≡ place + count → next ≤ length lent
+    → Put lent place bytes (put_mid place count lent part) next
+put_part {lent} {bytes} {part} {place} {count} same long after fits = record {
+  stored = put_mid-paste place count lent part bytes (length bytes) same long refl ∙ rw (take-length bytes, sets-eq bytes lent place (omega arith));
+  after = omega arith;
+  fits = fits;
+}
 
 -- stores behind a place, one after another
 abbrev stores : List ℕ → ℕ → ℕ → List ℕ → List ℕ
@@ -58,39 +65,3 @@ module _ {lent bytes left : List ℕ} {place next : ℕ} (put : Put lent place b
   -- lent bytes as the contract has them
   pub put_placed : left ≡ placed lent place bytes
   put_placed = put.stored ∙ sets-eq bytes lent place (omega (arith, put.after, put.fits))
-
--- what a loop that puts `count` items, each of `size` bytes, has made of lent bytes before its turn `i`
-pub record Putting (bytes_of : List ℕ → List ℕ) (size : ℕ) (lent : List ℕ) (place : ℕ) (items : List ℕ) (count : ℕ) (left : List ℕ) (next i : ℕ) : Type 0 where
-  pub in_range : i ≤ count
-  pub enough : count ≤ length items
-  pub stands : next ≡ place + size * i
-  pub long : length left ≡ length lent
-  pub put : Put lent place (bytes_of (take i items)) left next
-
-module _ {bytes_of : List ℕ → List ℕ} {size : ℕ} {lent : List ℕ} {place : ℕ} {items : List ℕ} {count : ℕ} where
-  -- before the first turn nothing is put
-  pub putting_start : {next : ℕ} → next ≡ place → bytes_of [] ≡ [] → place ≤ length lent → count ≤ length items
-      → Putting bytes_of size lent place items count lent next 0
-  putting_start here none fits enough = record {
-    in_range = omega arith;
-    enough = enough;
-    stands = rw (mul-zero, add-zero) here;
-    long = refl;
-    put = rw (none, here) (put_none lent place fits);
-  }
-
-  module _ {left : List ℕ} {next i : ℕ} (putting : Putting bytes_of size lent place items count left next i) where
-    -- a turn puts one item more
-    pub putting_next : {bytes last : List ℕ} {end : ℕ} → i < count → Put left next bytes last end → length bytes ≡ size
-        → bytes_of (take i items) ++ bytes ≡ bytes_of (take (i + 1) items) → Putting bytes_of size lent place items count last end (i + 1)
-    putting_next {last = last} {end} more then size_is all = record {
-      in_range = omega arith;
-      enough = putting.enough;
-      stands = rw (add-one i, mul-suc) (omega (arith, then.after, putting.stands));
-      long = put_length then ∙ putting.long;
-      put = rw (← all) (put_then putting.put then);
-    }
-
-    -- after the last turn all items are put
-    pub putting_over : count ≤ i → Put lent place (bytes_of (take count items)) left next
-    putting_over over = let all : i ≡ count = omega arith in rw (← all) putting.put

@@ -1,8 +1,12 @@
 -- What the functions that put text say of it.
-use Rattle.std.specs.Prelude.{ℕ, zero, suc, ◌+◌, ◌/◌, ◌%◌, ◌≤◌, min, ◌≡◌, List, [], ◌∷◌, ◌++◌, length, take, drop}
+use Rattle.std.specs.Prelude.{ℕ, zero, suc, ◌+◌, ◌/◌, ◌%◌, ◌≤◌, min, ◌≡◌, List, [], ◌∷◌, ◌++◌, length}
 use Rattle.std.proofs.lemmas.List.Edits.{sets}
 use Rattle.session_listing.specs.Digits.{digit}
 use Rattle.session_listing.specs.Text.{ascii, EntrySays, says_ok, says_at, says_line, says_refused, ended, spaced, pixels, first_line}
+use Rattle.session_listing.specs.declared.parts.Word.{Word}
+use Rattle.session_listing.specs.declared.parts.Word.TheVariants.{Ok, At, Line, Refused}
+use Rattle.session_listing.specs.declared.parts.Numbers.{Numbers}
+use Rattle.session_listing.specs.declared.parts.Numbers.TheVariants.{Nothing, One, Two}
 use Rattle.session_listing.specs.declared.parts.Parts.{Parts}
 
 -- some bytes are put into lent ones, from a place on: what these are left as, and the place after the bytes, which is none past the end
@@ -26,13 +30,22 @@ pairs_from byte (suc count) = digit (byte / 16) ∷ digit (byte % 16) ∷ 10 ∷
 unfoldable pub pair_table : List ℕ
 pair_table = pairs_from 0 256
 
--- the words, one behind another
-abbrev pub listing_words : List ℕ
-listing_words = ascii "okatlinerefused"
+-- the letters of a word
+abbrev pub letters_of : Word → List ℕ
+letters_of Ok = ascii "ok"
+letters_of At = ascii "at"
+letters_of Line = ascii "line"
+letters_of Refused = ascii "refused"
+
+-- the numbers behind a word, as a list
+abbrev pub numbers_of : Numbers → List ℕ
+numbers_of Nothing = []
+numbers_of (One number) = number ∷ []
+numbers_of (Two first second) = first ∷ second ∷ []
 
 -- the first line of some parts
 abbrev pub parts_line : Parts → List ℕ
-parts_line parts = take parts.letters (drop parts.from listing_words) ++ spaced (take parts.numbers (parts.first ∷ parts.second ∷ []))
+parts_line parts = letters_of parts.word ++ spaced (numbers_of parts.numbers)
 
 -- the first line, and each of some colours on a line of its own
 abbrev pub parts_text : Parts → List ℕ → List ℕ
@@ -50,5 +63,3 @@ pub record PartsOf (listed : EntrySays) (count : ℕ) (parts : Parts) : Type 0 w
   pub says : parts_line parts ≡ first_line listed
   pub shows : parts.pixels ≡ count_shown listed count
   pub few : parts.pixels ≤ count
-  pub inside : parts.from + parts.letters ≤ 15
-  pub short : parts.letters ≤ 7

@@ -1,9 +1,7 @@
 -- The room that an entry is granted, and what rendering it leaves and answers.
-use Rattle.std.specs.Prelude.{ℕ, ◌+◌, ◌*◌, ◌^◌, ◌<◌, ◌≡◌, cond, List, [], ◌∷◌, ◌++◌, leb, length, take, drop}
+use Rattle.std.specs.Prelude.{ℕ, ◌+◌, ◌*◌, ◌^◌, ◌<◌, ◌≡◌, cond, Option, Some, None, List, [], ◌∷◌, ◌++◌, leb, length, take, drop}
 use Rattle.rules.specs.Faults.{place_in}
 use Rattle.session_listing.specs.Text.{EntrySays, says_ok, says_at, says_line, says_refused, colours_shown, text}
-use Rattle.session_listing.specs.declared.render.Rendered.{Rendered}
-use Rattle.session_listing.specs.declared.render.Rendered.TheVariants.{To, NoRoom}
 
 -- 32 bytes, and 7 more for each of so many colours
 abbrev pub room_of : ℕ → ℕ
@@ -17,12 +15,12 @@ room_for listed output = room_of (length (colours_shown listed output))
 abbrev pub placed : List ℕ → ℕ → List ℕ → List ℕ
 placed lent place bytes = take place lent ++ bytes ++ drop (place + length bytes) lent
 
--- where the room is there from a place on, the place after the entry's text, which then stands there; else no room, and the bytes as they were (CHIP 9.7)
-abbrev pub rendered : EntrySays → List ℕ → List ℕ → ℕ → Rendered × List ℕ
+-- where the room is there from a place on, the place after the entry's text, which then stands there; else none, and the bytes as they were (CHIP 9.7)
+abbrev pub rendered : EntrySays → List ℕ → List ℕ → ℕ → Option ℕ × List ℕ
 rendered listed output lent place =
     cond (leb (place + room_for listed output) (length lent))
-    (To (place + length (text listed output)), placed lent place (text listed output))
-    (NoRoom, lent)
+    (Some (place + length (text listed output)), placed lent place (text listed output))
+    (None, lent)
 
 -- an entry whose numbers have 32 bits, and a refusal one value
 abbrev pub Small : EntrySays → Type 0

@@ -1,10 +1,10 @@
 // Text put into lent bytes, from a place on. Each function answers the place after what it put.
-ghost use Rattle.std.specs.Prelude.{◌+◌, ◌≤◌, ◌<◌, ◌≡◌, [], ◌∷◌, length, take, drop};
+ghost use Rattle.std.specs.Prelude.{◌+◌, ◌≤◌, ◌<◌, ◌≡◌, [], ◌∷◌, length};
 ghost use Rattle.session_listing.specs.Digits.{digit, decimal};
 ghost use Rattle.session_listing.specs.Text.{spaced};
-ghost use Rattle.session_listing.specs.Inner.{Put, listing_words, parts_line};
+ghost use Rattle.session_listing.specs.Inner.{Put, letters_of, numbers_of, parts_line};
 
-use crate::parts::{Parts, letter};
+use crate::parts::{Numbers, Parts, Word};
 
 // The byte of a digit.
 pub(crate) fn digit(value: u32) -> u8
@@ -12,9 +12,9 @@ pub(crate) fn digit(value: u32) -> u8
     ensures { result ≡ digit value }
 {
     if value < 10 {
-        return 48 + value as u8;
+        return b'0' + value as u8;
     }
-    87 + value as u8
+    b'a' + (value - 10) as u8
 }
 
 // A number in decimal.
@@ -40,31 +40,37 @@ fn put_spaced(lent: &mut [u8], at: usize, number: u32) -> usize
     put_number(lent, at + 1, number)
 }
 
-// Some letters of the words.
-fn put_word(lent: &mut [u8], at: usize, from: usize, letters: usize) -> usize
-    requires { (from + letters ≤ 15) × (at + letters ≤ length lent.old) }
-    ensures { Put lent.old at (take letters (drop from listing_words)) lent.new result × (result ≡ at + letters) }
+// A word, letter by letter.
+fn put_word(lent: &mut [u8], at: usize, word: Word) -> usize
+    requires { at + 7 ≤ length lent.old }
+    ensures { Put lent.old at (letters_of word) lent.new result × (result ≤ at + 7) }
 {
-    let mut i = 0;
-    while i < letters {
-        lent[at + i] = letter(from + i);
-        i += 1;
+    let letters = word.letters();
+    let end = at + letters.len();
+    lent[at..end].copy_from_slice(letters);
+    end
+}
+
+// Numbers, a space before each.
+fn put_numbers(lent: &mut [u8], at: usize, numbers: Numbers) -> usize
+    requires { at + 22 ≤ length lent.old }
+    ensures { Put lent.old at (spaced (numbers_of numbers)) lent.new result × (result ≤ at + 22) }
+{
+    match numbers {
+        Numbers::Nothing => at,
+        Numbers::One(number) => put_spaced(lent, at, number),
+        Numbers::Two(first, second) => {
+            let next = put_spaced(lent, at, first);
+            put_spaced(lent, next, second)
+        }
     }
-    at + i
 }
 
 // A first line, without its end.
 pub(crate) fn put_parts(lent: &mut [u8], at: usize, parts: Parts) -> usize
-    requires { (parts.from + parts.letters ≤ 15) × (parts.letters ≤ 7) × (at + 31 ≤ length lent.old) }
+    requires { at + 31 ≤ length lent.old }
     ensures { Put lent.old at (parts_line parts) lent.new result × (result ≤ at + 31) }
 {
-    let word = put_word(lent, at, parts.from, parts.letters);
-    if parts.numbers == 0 {
-        return word;
-    }
-    let next = put_spaced(lent, word, parts.first);
-    if parts.numbers == 1 {
-        return next;
-    }
-    put_spaced(lent, next, parts.second)
+    let word = put_word(lent, at, parts.word);
+    put_numbers(lent, word, parts.numbers)
 }

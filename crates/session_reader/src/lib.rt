@@ -15,23 +15,25 @@ pub struct Reader<'a> {
     pub place: usize,
 }
 
-// A reader at a place of the bytes.
-pub fn reader_at<'a>(bytes: &'a [u8], place: usize) -> Reader<'a>
-    ensures { (result.bytes ≡ bytes.entry) × (result.place ≡ place) }
-{
-    Reader { bytes, place }
-}
+impl<'a> Reader<'a> {
+    // A reader at a place of the bytes.
+    pub fn at(bytes: &'a [u8], place: usize) -> Self
+        ensures { (result.bytes ≡ bytes.entry) × (result.place ≡ place) }
+    {
+        Self { bytes, place }
+    }
 
-// What stands at the reader's place.
-pub fn next<'a>(reader: Reader<'a>, context: Context) -> RecordAt
-    ensures { result ≡ record_at context (drop reader.entry.place reader.entry.bytes.now) }
-{
-    record_at(reader.bytes, reader.place, context)
+    // What stands at its place.
+    pub fn next(self, context: Context) -> RecordAt
+        ensures { result ≡ record_at context (drop self.entry.place self.entry.bytes.now) }
+    {
+        record_at(self.bytes, self.place, context)
+    }
 }
 
 // What stands at a place of the bytes, as a reader there finds it.
 pub fn read(bytes: &[u8], place: usize, context: Context) -> RecordAt
     ensures { result ≡ record_at context (drop place bytes.now) }
 {
-    next(reader_at(bytes, place), context)
+    Reader::at(bytes, place).next(context)
 }

@@ -1,6 +1,8 @@
 -- The tags, and the lengths of a body that each allows.
-use Rattle.std.specs.Prelude.{ℕ, Bool, ◌&&◌, List, [], ◌∷◌, leb, ltb, length, get_or}
+use Rattle.std.specs.Prelude.{ℕ, ◌≡◌, Bool, false, ◌&&◌, Option, Some, None, List, [], ◌∷◌, leb, ltb, length, get_or}
 use Rattle.session_records.specs.declared.tags.BodyLengths.{BodyLengths}
+use Rattle.session_records.specs.declared.tags.Tag.{Tag}
+use Rattle.session_records.specs.declared.tags.Tag.TheVariants.{End, Write, Dots, Table, Normal, Overlay, Line}
 
 -- one length alone
 abbrev pub just : ℕ → BodyLengths
@@ -37,6 +39,21 @@ allowed = just 0 ∷ just 8 ∷ just 4 ∷ up_to 65535 ∷ up_to longest_normal 
 -- there is a record with this tag (CHIP 9.1)
 abbrev pub known : ℕ → Bool
 known tag = ltb tag (length allowed)
+
+-- the number of a tag (CHIP 9.1)
+abbrev pub number_of : Tag → ℕ
+number_of End = 0
+number_of Write = 1
+number_of Dots = 2
+number_of Table = 3
+number_of Normal = 4
+number_of Overlay = 5
+number_of Line = 6
+
+-- the tag of a byte: the byte is its number, or there is no record with this tag
+abbrev pub IsTagOf : ℕ → Option Tag → Type 0
+IsTagOf byte None = known byte ≡ false
+IsTagOf byte (Some tag) = byte ≡ number_of tag
 
 -- the lengths of a tag (CHIP 9.1)
 abbrev pub lengths_of : ℕ → BodyLengths

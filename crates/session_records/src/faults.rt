@@ -4,97 +4,68 @@ ghost use Rattle.session_records.specs.Faults.{unknown_tag, wrong_length, too_ma
 
 use crate::parts::length_of;
 use crate::record::Context;
-use crate::tags::{DOTS, LINE, TABLE, allows};
+use crate::tags::{Tag, allows};
 use crate::{LONGEST_TABLE, MOST_DOTS, MOST_RECORDS};
 
-// Whether there is no such tag: a line's is the last.
+// Whether there is no such tag.
 fn unknown_tag(bytes: &[u8]) -> bool
     ensures { result ≡ unknown_tag bytes.now }
 {
-    if bytes.len() < 1 {
-        return false;
-    }
-    LINE < bytes[0]
+    !bytes.is_empty() && Tag::of(bytes[0]).is_none()
 }
 
 // Whether the tag doesn't allow the length.
 fn wrong_length(bytes: &[u8]) -> bool
     ensures { result ≡ wrong_length bytes.now }
 {
-    if bytes.len() < 3 {
-        return false;
-    }
-    !allows(bytes[0], length_of(bytes))
+    3 <= bytes.len() && !allows(bytes[0], length_of(bytes))
 }
 
 // Whether a count of dots is above 16,777,216.
 fn too_many_dots(bytes: &[u8]) -> bool
     ensures { result ≡ too_many_dots bytes.now }
 {
-    if bytes.len() < 7 {
-        return false;
-    }
-    if bytes[0] != DOTS {
-        return false;
-    }
-    MOST_DOTS < words::be32(bytes, 3)
+    7 <= bytes.len()
+        && matches!(Tag::of(bytes[0]), Some(Tag::Dots))
+        && MOST_DOTS < words::be32(bytes, 3)
 }
 
 // Whether the record is wrong: 12.
+#[tactic(auto, unfolding(crate::specs::Faults::wrong))]
 pub(crate) fn wrong(bytes: &[u8]) -> bool
     ensures { result ≡ wrong bytes.now }
 {
-    if unknown_tag(bytes) {
-        return true;
-    }
-    if wrong_length(bytes) {
-        return true;
-    }
-    too_many_dots(bytes)
+    unknown_tag(bytes) || wrong_length(bytes) || too_many_dots(bytes)
 }
 
 // Whether 1,000,000 records stand before this one.
 fn too_many_records(bytes: &[u8], number: u32) -> bool
     ensures { result ≡ too_many_records number bytes.now }
 {
-    if bytes.len() < 1 {
-        return false;
-    }
-    MOST_RECORDS <= number
+    !bytes.is_empty() && MOST_RECORDS <= number
 }
 
 // Whether the table has more than 65,536 bytes with these.
 fn too_long_table(bytes: &[u8], table: usize) -> bool
     ensures { result ≡ too_long_table table bytes.now }
 {
-    if bytes.len() < 3 {
-        return false;
-    }
-    if bytes[0] != TABLE {
-        return false;
-    }
-    if LONGEST_TABLE < table {
-        return true;
-    }
-    LONGEST_TABLE - table < length_of(bytes)
+    3 <= bytes.len()
+        && matches!(Tag::of(bytes[0]), Some(Tag::Table))
+        && (LONGEST_TABLE < table || LONGEST_TABLE - table < length_of(bytes))
 }
 
 // Whether the record is too much: 14.
+#[tactic(auto, unfolding(crate::specs::Faults::too_much))]
 pub(crate) fn too_much(bytes: &[u8], context: Context) -> bool
     ensures { result ≡ too_much context bytes.now }
 {
-    if too_many_records(bytes, context.number) {
-        return true;
-    }
-    too_long_table(bytes, context.table)
+    too_many_records(bytes, context.number) || too_long_table(bytes, context.table)
 }
 
 // Whether bytes are missing: 13.
+#[tactic(auto, unfolding(crate::specs::Faults::missing))]
 pub(crate) fn missing(bytes: &[u8]) -> bool
     ensures { result ≡ missing bytes.now }
 {
-    if bytes.len() < 3 {
-        return true;
-    }
-    bytes.len() - 3 < length_of(bytes)
+    bytes.len() < 3 || bytes.len() - 3 < length_of(bytes)
 }

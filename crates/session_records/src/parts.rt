@@ -4,7 +4,7 @@ ghost use Rattle.session_records.specs.Tags.{lengths_of};
 ghost use Rattle.session_records.specs.Parts.{tag_of, length_of, record_of};
 
 use crate::record::Record;
-use crate::tags;
+use crate::tags::Tag;
 
 // The body's length.
 pub(crate) fn length_of(bytes: &[u8]) -> usize
@@ -14,22 +14,21 @@ pub(crate) fn length_of(bytes: &[u8]) -> usize
     words::be16(bytes, 1) as usize
 }
 
-// The record: its tag is known, and the shortest body of it is there.
+// The record: the shortest body of it is there. A byte that is no tag, which is refused before, counts as an end.
 pub(crate) fn record_of(bytes: &[u8]) -> Record
-    requires { (tag_of bytes.now < 7) × (3 + (lengths_of (tag_of bytes.now)).least ≤ length bytes.now) }
+    requires { 3 + (lengths_of (tag_of bytes.now)).least ≤ length bytes.now }
     ensures { result ≡ record_of bytes.now }
 {
-    let tag = bytes[0];
-    match tag {
-        tags::END => Record::End,
-        tags::WRITE => Record::Write {
+    match Tag::of(bytes[0]) {
+        Some(Tag::End) | None => Record::End,
+        Some(Tag::Write) => Record::Write {
             address: words::be32(bytes, 3),
             value: words::be32(bytes, 7),
         },
-        tags::DOTS => Record::Dots(words::be32(bytes, 3)),
-        tags::TABLE => Record::Table,
-        tags::NORMAL => Record::Normal,
-        tags::OVERLAY => Record::Overlay,
-        _ => Record::Line(words::be16(bytes, 3)),
+        Some(Tag::Dots) => Record::Dots(words::be32(bytes, 3)),
+        Some(Tag::Table) => Record::Table,
+        Some(Tag::Normal) => Record::Normal,
+        Some(Tag::Overlay) => Record::Overlay,
+        Some(Tag::Line) => Record::Line(words::be16(bytes, 3)),
     }
 }

@@ -49,6 +49,7 @@ pub enum RecordAt {
 }
 
 // What stands at the front of bytes that end before their record does.
+#[tactic(auto, unfolding(crate::specs::RecordAt::record_at))]
 fn beginning(bytes: &[u8], context: Context) -> RecordAt
     requires { (wrong bytes.now ≡ false) × (missing bytes.now ≡ true) }
     ensures { result ≡ record_at context bytes.now }
@@ -63,6 +64,7 @@ fn beginning(bytes: &[u8], context: Context) -> RecordAt
 }
 
 // What stands at the front of the bytes.
+#[tactic(auto, unfolding(crate::specs::RecordAt::record_at))]
 fn front(bytes: &[u8], context: Context) -> RecordAt
     ensures { result ≡ record_at context bytes.now }
 {
@@ -85,8 +87,6 @@ fn front(bytes: &[u8], context: Context) -> RecordAt
 pub fn record_at(bytes: &[u8], place: usize, context: Context) -> RecordAt
     ensures { result ≡ record_at context (drop place bytes.now) }
 {
-    if place < bytes.len() {
-        return front(&bytes[place..], context);
-    }
-    front(&bytes[..0], context)
+    let from = place.min(bytes.len());
+    front(&bytes[from..], context)
 }

@@ -1,29 +1,27 @@
 // The tags, and the lengths of a body that each allows.
 ghost use Rattle.std.specs.Prelude.{◌≡◌};
-ghost use Rattle.session_records.specs.Tags.{just, up_to, lengths_of, allows};
+ghost use Rattle.session_records.specs.Tags.{just, up_to, number_of, IsTagOf, lengths_of, allows};
 
 use crate::{LONGEST_BODY, LONGEST_NORMAL, LONGEST_OVERLAY};
 
-// The end of the run.
-pub(crate) const END: u8 = 0;
-
-// A write.
-pub(crate) const WRITE: u8 = 1;
-
-// Some dots.
-pub(crate) const DOTS: u8 = 2;
-
-// Bytes of the ID table.
-pub(crate) const TABLE: u8 = 3;
-
-// A normal row.
-pub(crate) const NORMAL: u8 = 4;
-
-// An overlay row.
-pub(crate) const OVERLAY: u8 = 5;
-
-// A line.
-pub(crate) const LINE: u8 = 6;
+// A tag, by its number.
+#[derive(Clone, Copy)]
+pub(crate) enum Tag {
+    // 0: the end of the run.
+    End,
+    // 1: a write.
+    Write,
+    // 2: some dots.
+    Dots,
+    // 3: bytes of the ID table.
+    Table,
+    // 4: a normal row.
+    Normal,
+    // 5: an overlay row.
+    Overlay,
+    // 6: a line.
+    Line,
+}
 
 // The shortest and the longest body.
 #[derive(Drop)]
@@ -54,29 +52,54 @@ fn up_to(length: usize) -> BodyLengths
     }
 }
 
-// The lengths of a tag.
-fn lengths_of(tag: u8) -> BodyLengths
-    ensures { result ≡ lengths_of tag }
-{
-    match tag {
-        END => just(0),
-        WRITE => just(8),
-        DOTS => just(4),
-        TABLE => up_to(LONGEST_BODY),
-        NORMAL => up_to(LONGEST_NORMAL),
-        OVERLAY => up_to(LONGEST_OVERLAY),
-        LINE => just(2),
-        _ => just(0),
+impl Tag {
+    // The tag of a byte, where there is such a tag.
+    pub(crate) fn of(byte: u8) -> Option<Self>
+        ensures { IsTagOf byte result }
+    {
+        match byte {
+            0 => Some(Self::End),
+            1 => Some(Self::Write),
+            2 => Some(Self::Dots),
+            3 => Some(Self::Table),
+            4 => Some(Self::Normal),
+            5 => Some(Self::Overlay),
+            6 => Some(Self::Line),
+            _ => None,
+        }
+    }
+
+    // The lengths that it allows.
+    fn lengths(self) -> BodyLengths
+        ensures { result ≡ lengths_of (number_of self) }
+    {
+        match self {
+            Self::End => just(0),
+            Self::Write => just(8),
+            Self::Dots => just(4),
+            Self::Table => up_to(LONGEST_BODY),
+            Self::Normal => up_to(LONGEST_NORMAL),
+            Self::Overlay => up_to(LONGEST_OVERLAY),
+            Self::Line => just(2),
+        }
     }
 }
 
-// Whether a tag allows a length.
-pub(crate) fn allows(tag: u8, length: usize) -> bool
-    ensures { result ≡ allows tag length }
+// The lengths that a byte allows: those of its tag, and without one an empty body.
+fn lengths_of(byte: u8) -> BodyLengths
+    ensures { result ≡ lengths_of byte }
 {
-    let lengths = lengths_of(tag);
-    if length < lengths.least {
-        return false;
+    match Tag::of(byte) {
+        Some(tag) => tag.lengths(),
+        None => just(0),
     }
-    length <= lengths.most
+}
+
+// Whether a byte allows a length.
+#[tactic(auto, unfolding(crate::specs::Tags::allows))]
+pub(crate) fn allows(byte: u8, length: usize) -> bool
+    ensures { result ≡ allows byte length }
+{
+    let lengths = lengths_of(byte);
+    lengths.least <= length && length <= lengths.most
 }

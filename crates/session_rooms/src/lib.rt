@@ -1,13 +1,13 @@
 // What a step of a session is lent: how much is held, and how long each room is.
 #![tactic(auto)]
 
-ghost use Rattle.std.specs.Prelude.{◌≡◌};
+ghost use Rattle.std.specs.Prelude.{◌≡◌, [], ◌∷◌};
 ghost use Rattle.rules.specs.Checked.{verdict};
-ghost use Rattle.refusals.specs.Refusal.{answer_outcome};
-ghost use Rattle.session_rooms.specs.Rooms.{too_much_held, room_faults, lent_faults};
+ghost use Rattle.refusals.specs.Refusal.{fault, outcome_of};
+ghost use Rattle.session_rooms.specs.Rooms.{too_much_held, wrong_room, room_faults, lent_faults};
 
 use chip_registers::STORE_WORDS;
-use refusals::{Answer, Refusal};
+use refusals::Refusal;
 use session_records::{LONGEST_NORMAL, LONGEST_OVERLAY, LONGEST_TABLE};
 
 // How many words the longest line has: the active width less 1 has 11 bits.
@@ -25,39 +25,42 @@ pub struct Counts {
     pub overlay: usize,
 }
 
-// Whether so many bytes of table and rows are more than there is room for.
-fn too_much_held(table: usize, normal: usize, overlay: usize) -> bool
-    ensures { result ≡ too_much_held table normal overlay }
+// Whether more bytes of table and rows are there than there is room for.
+#[tactic(auto, unfolding(crate::specs::Rooms::too_much_held))]
+fn too_much_held(counts: Counts) -> bool
+    ensures { result ≡ too_much_held counts.table counts.normal counts.overlay }
 {
-    if LONGEST_TABLE < table {
-        return true;
+    LONGEST_TABLE < counts.table
+        || LONGEST_NORMAL < counts.normal
+        || LONGEST_OVERLAY < counts.overlay
+}
+
+// Whether a room has the length that is wanted; else it is refused so.
+fn room_check(lent: usize, wanted: usize, refusal: Refusal) -> Result<(), Refusal>
+    ensures { outcome_of result ≡ verdict (fault refusal (wrong_room lent wanted) ∷ []) }
+{
+    if lent != wanted {
+        return Err(refusal);
     }
-    if LONGEST_NORMAL < normal {
-        return true;
-    }
-    LONGEST_OVERLAY < overlay
+    Ok(())
 }
 
 // The lengths of the rooms, at the lowest place: 5.
-fn rooms_check(store: usize, table: usize, normal: usize, overlay: usize, output: usize) -> Answer
-    ensures { answer_outcome result ≡ verdict (room_faults store table normal overlay output) }
+#[tactic(auto, unfolding(crate::specs::Rooms::room_faults))]
+fn rooms_check(
+    store: usize,
+    table: usize,
+    normal: usize,
+    overlay: usize,
+    output: usize,
+) -> Result<(), Refusal>
+    ensures { outcome_of result ≡ verdict (room_faults store table normal overlay output) }
 {
-    if store != STORE_WORDS {
-        return Answer::Refused(Refusal::StoreLength);
-    }
-    if table != LONGEST_TABLE {
-        return Answer::Refused(Refusal::TableLength);
-    }
-    if normal != LONGEST_NORMAL {
-        return Answer::Refused(Refusal::NormalLength);
-    }
-    if overlay != LONGEST_OVERLAY {
-        return Answer::Refused(Refusal::OverlayLength);
-    }
-    if output != LONGEST_LINE {
-        return Answer::Refused(Refusal::OutputLength);
-    }
-    Answer::Done
+    room_check(store, STORE_WORDS, Refusal::StoreLength)?;
+    room_check(table, LONGEST_TABLE, Refusal::TableLength)?;
+    room_check(normal, LONGEST_NORMAL, Refusal::NormalLength)?;
+    room_check(overlay, LONGEST_OVERLAY, Refusal::OverlayLength)?;
+    room_check(output, LONGEST_LINE, Refusal::OutputLength)
 }
 
 // Whether a step may go on with what it is lent: 11, and then 5.
@@ -68,11 +71,11 @@ pub fn step_check(
     normal: usize,
     overlay: usize,
     output: usize,
-) -> Answer
-    ensures { answer_outcome result ≡ verdict (lent_faults counts store table normal overlay output) }
+) -> Result<(), Refusal>
+    ensures { outcome_of result ≡ verdict (lent_faults counts store table normal overlay output) }
 {
-    if too_much_held(counts.table, counts.normal, counts.overlay) {
-        return Answer::Refused(Refusal::BadState);
+    if too_much_held(counts) {
+        return Err(Refusal::BadState);
     }
     rooms_check(store, table, normal, overlay, output)
 }

@@ -1,6 +1,6 @@
--- `to_front`: a turn moves the next byte.
-use Rattle.replay.proofs.Front.{moving_next}
+-- `to_front`: what is copied are the bytes from the one place to the other.
+use Rattle.replay.proofs.Front.{moved}
 use Rattle.replay.proofs.input.to_front.Goals as goal
 
-pub loop-next-preserved : goal.loop-next-preserved
-loop-next-preserved c = moving_next c.args.input.now c.args.from c.args.to c.requires c.loop-next.invariant c.loop-next-test.true
+pub returns : goal.returns
+returns c = moved c.args.input.now c.args.to c.requires c.args.from c.min-start.ensures c.copy_within.ensures.after

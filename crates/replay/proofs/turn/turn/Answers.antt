@@ -1,6 +1,5 @@
 -- `turn`: without room the text is to be written out, else a turn is a step and its text.
 use Rattle.std.proofs.Common.{sym, ap, ◌∙◌}
-use native.Mathlib.Nat.{sub-zero}
 use Rattle.session.specs.Lent.{rooms_of}
 use Rattle.session.specs.Done.{session_with}
 use Rattle.replay.specs.Run.{run_of}
@@ -23,4 +22,4 @@ returns c =
     let rooms = rooms_of c.args.store.now c.args.table.now c.args.normal.now c.args.overlay.now c.args.output.now in
     let run = run_of c.args.course session rooms c.args.input.now c.args.lines.now in
     rw c.going_after.ensures
-    (turn_made run (sym c.has_room.ensures ∙ c.if-not-has_room.false) (rw sub-zero at c.record_step-done.ensures.0) c.put_added-end.ensures)
+    (turn_made run (sym c.has_room.ensures ∙ c.if-not-has_room.false) c.record_step-done.ensures.0 c.put_added-end.ensures)

@@ -1,5 +1,5 @@
 -- `session_listing::put::put_number` meets its contract: it puts the number without its last digit, and then that. Assumes nothing.
-use Prim.Native.Nat.{ℕ, ◌≤◌}
+use Prim.Native.Nat.{◌≤◌}
 use mathlib.Core.Path.{refl, sym}
 use native.Mathlib.Omega.{arith}
 use Rattle.session_listing.proofs.Puts.{put_as, put_then, put_one}
