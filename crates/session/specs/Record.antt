@@ -1,5 +1,5 @@
 -- What a record does, and what comes of the record at the front of some bytes.
-use Rattle.std.specs.Prelude.{ℕ, ◌+◌, Bool, List, ◌++◌, length}
+use Rattle.std.specs.Prelude.{ℕ, ◌+◌, Bool, List, ◌++◌, length, Option}
 use Rattle.rules.specs.Rule.{Outcome, ok, refused}
 use Rattle.rules.specs.Faults.{Numbered}
 use Rattle.refusals.specs.Refusal.{numbered}
@@ -8,7 +8,7 @@ use Rattle.chip.specs.Call.{Chip}
 use Rattle.chip.specs.Write.{written}
 use Rattle.chip.specs.Dots.{ran}
 use Rattle.chip.specs.declared.state.State.{State}
-use Rattle.chip.specs.declared.report.Report.{Report}
+use Rattle.chip_timing.specs.declared.Signals.{Signals}
 use Rattle.session_records.specs.Parts.{body_of}
 use Rattle.session_records.specs.RecordAt.{record_at}
 use Rattle.session_records.specs.declared.record.Record.{Record}
@@ -39,7 +39,7 @@ abbrev pub wrote : Held → Chip × Outcome Numbered (Unit {0}) → Held × Stat
 wrote held after = (with_chip held after.0, listed (entry_of text.says_ok after.1))
 
 -- some dots (CHIP 9.7)
-abbrev pub ran_dots : Held → Chip × Outcome Numbered Report → Held × Status
+abbrev pub ran_dots : Held → Chip × Outcome Numbered (Option Signals) → Held × Status
 ran_dots held after = (with_chip held after.0, listed (entry_of (at_position after.0.0.at) after.1))
 
 -- a line

@@ -1,10 +1,9 @@
 // What each record does.
 ghost use Rattle.std.specs.Prelude.{◌<◌, ◌≡◌, take};
-ghost use Rattle.refusals.specs.Refusal.{answer_outcome};
+ghost use Rattle.refusals.specs.Refusal.{outcome_of};
 ghost use Rattle.chip.specs.Change.{Tells};
 ghost use Rattle.chip.specs.Write.{written};
 ghost use Rattle.chip.specs.Dots.{ran};
-ghost use Rattle.chip.specs.Report.{dots_outcome};
 ghost use Rattle.session_records.specs.Tags.{most_records};
 ghost use Rattle.session_listing.specs.Text.{entry_says, says_line};
 ghost use Rattle.session_listing.specs.Text.{says_ok};
@@ -21,10 +20,9 @@ ghost use Rattle.session.specs.Inner.{left_by, listed_as, asked_in, HeldWithin, 
 use crate::keep::keep;
 use chip::change::Change;
 use chip::state::State;
-use chip_timing::Position;
 use line::request::Request;
 use line_setup::controls::Controls;
-use refusals::Answer;
+use refusals::Refusal;
 use session_answers::StepAnswer;
 use session_listing::entry::ListingEntry;
 use session_records::record::Record;
@@ -44,22 +42,12 @@ pub struct Acted {
 }
 
 // The entry of a call: this one where it is done, else its refusal.
-fn entry_of(answer: Answer, done: ListingEntry) -> ListingEntry
-    ensures { entry_says result ≡ entry_of (entry_says done) (answer_outcome answer) }
+fn entry_of<A: Drop>(answer: Result<A, Refusal>, done: ListingEntry) -> ListingEntry
+    ensures { entry_says result ≡ entry_of (entry_says done) (outcome_of answer) }
 {
     match answer {
-        Answer::Done => done,
-        Answer::Refused(refusal) => ListingEntry::Refused(refusal),
-    }
-}
-
-// The entry of some dots.
-fn entry_of_dots(answer: chip::report::DotsAnswer, at: Position) -> ListingEntry
-    ensures { entry_says result ≡ entry_of (at_position at) (dots_outcome answer) }
-{
-    match answer {
-        chip::report::DotsAnswer::Reported(_) => ListingEntry::At { x: at.x, y: at.y },
-        chip::report::DotsAnswer::Refused(refusal) => ListingEntry::Refused(refusal),
+        Ok(_) => done,
+        Err(refusal) => ListingEntry::Refused(refusal),
     }
 }
 
@@ -67,9 +55,7 @@ fn entry_of_dots(answer: chip::report::DotsAnswer, at: Position) -> ListingEntry
 fn width(state: State) -> usize
     ensures { result ≡ (controls_of state.control).width }
 {
-    let control = state.control;
-    let controls = Controls::of(control);
-    controls.width as usize
+    Controls::from(state.control).width as usize
 }
 
 // After one more record, which changed this and lists this entry.
@@ -98,9 +84,8 @@ fn write(
     ensures { (((left_by state result, store.new), step_outcome result.answer) ≡ asked_in (session_with state counts records) says_ok (written (state, store.old) address value)) × Tells state.queue result.change.queue }
 {
     let wrote = state.write_change(store, address, value);
-    let change = wrote.change;
-    let answer = wrote.answer;
-    listed(change, counts, records, entry_of(answer, ListingEntry::Ok))
+    let entry = entry_of(wrote.answer, ListingEntry::Ok);
+    listed(wrote.change, counts, records, entry)
 }
 
 // Some dots.
@@ -109,10 +94,9 @@ fn dots(state: State, counts: Counts, records: u32, store: &mut [u32], count: u3
     ensures { (((left_by state result, store.new), step_outcome result.answer) ≡ asked_in (session_with state counts records) (at_position (ran (state, store.old) count).0.0.at) (ran (state, store.old) count)) × Tells state.queue result.change.queue }
 {
     let ran = state.dots_change(store, count);
-    let change = ran.change;
-    let answer = ran.answer;
-    let at = change.at;
-    listed(change, counts, records, entry_of_dots(answer, at))
+    let at = ran.change.at;
+    let entry = entry_of(ran.answer, ListingEntry::At { x: at.x, y: at.y });
+    listed(ran.change, counts, records, entry)
 }
 
 // A line.

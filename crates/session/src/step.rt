@@ -10,7 +10,6 @@ use crate::acts::act;
 use crate::session::Session;
 use chip::change::Change;
 use chip::state::State;
-use refusals::Answer;
 use session_answers::StepAnswer;
 use session_records::record::{Context, RecordAt};
 use session_rooms::{Counts, step_check};
@@ -65,7 +64,7 @@ pub fn record_step(
         overlay.len(),
         output.len(),
     );
-    if let Answer::Refused(refusal) = allowed {
+    if let Err(refusal) = allowed {
         return Done {
             change: state.unchanged(),
             counts,

@@ -2,13 +2,14 @@
 use Prim.Native.Nat.{ℕ}
 use mathlib.Core.Path.{◌≡◌, refl, ap}
 use mathlib.Core.List.{List, [], ◌∷◌}
+use Rattle.std.specs.Prelude.{Option}
 use Rattle.rules.specs.Rule.{Outcome, refused}
 use Rattle.rules.specs.Faults.{Numbered, Fault}
 use Rattle.refusals.specs.Refusal.{numbered}
 use Rattle.refusals.specs.declared.Refusal.TheVariants.{StoreLength, TableLength, NormalLength, OverlayLength, OutputLength, BadState}
 use Rattle.chip.specs.Write.{written}
 use Rattle.chip.specs.Dots.{ran}
-use Rattle.chip.specs.declared.report.Report.{Report}
+use Rattle.chip_timing.specs.declared.Signals.{Signals}
 use Rattle.session_records.specs.declared.record.Record.TheVariants.{Write, Dots, Line}
 use Rattle.session_listing.specs.Text as entry
 use Rattle.session_answers.specs.Status.{listed}
@@ -44,7 +45,7 @@ module _ (held : Held) (body : List ℕ) {refusal : Numbered} where
 
   -- the refusal of dots
   pub dots_refused : (count : ℕ) → (ran held.chip count).1 ≡ refused refusal → (acted held (Dots count) body).1 ≡ listed (entry.says_refused refusal)
-  dots_refused count is = ap (λ (outcome : Outcome Numbered Report). listed (entry_of (at_position (ran held.chip count).0.0.at) outcome)) is
+  dots_refused count is = ap (λ (outcome : Outcome Numbered (Option Signals)). listed (entry_of (at_position (ran held.chip count).0.0.at) outcome)) is
 
   -- the refusal of a line
   pub line_refused : (y : ℕ)

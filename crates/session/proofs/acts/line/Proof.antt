@@ -4,7 +4,7 @@ use mathlib.Core.Path.{ap, ◌∙◌}
 use native.Mathlib.Nat.{sub-zero}
 use borrow.Author.Rules.{rules}
 use lib.ListN.{take}
-use Rattle.refusals.specs.Refusal.{answer_outcome}
+use Rattle.refusals.specs.Refusal.{outcome_of}
 use Rattle.chip.specs.Change.{unchanged}
 use Rattle.chip.specs.declared.change.Change.{Change}
 use Rattle.session_listing.specs.Text.{says_line}
@@ -68,12 +68,12 @@ returns c =
     let given = c.args in
     let lent = lent_of given.store.now (take given.counts.table given.table.now) (take given.counts.normal given.normal.now) (take given.counts.overlay given.overlay.now) in
     let after = drawn (request_of given.state given.y) lent given.output.now in
-    asked_by given.state given.counts given.records (says_line given.y (controls_of given.state.control).width) (unchanged given.state) c.draw-drawn.new.out (answer_outcome c.draw-drawn.result.answer) after
+    asked_by given.state given.counts given.records (says_line given.y (controls_of given.state.control).width) (unchanged given.state) c.draw-drawn.new.out (outcome_of c.draw-drawn.result.answer) after
     (c.listed.ensures ∙ ap (λ (change : Change). listed_as change given.counts given.records c.entry_of.result) c.unchanged.ensures) (
       handed_back (request_of given.state given.y) lent given.output.now (rw (sub-zero given.counts.table, sub-zero given.counts.normal, sub-zero given.counts.overlay) at c.draw-drawn.ensures),
       tt,
     )
-    (c.entry_of.ensures ∙ ap (λ (width : ℕ). entry_of (says_line given.y width) (answer_outcome c.draw-drawn.result.answer)) c.width.ensures)
+    (c.entry_of.ensures ∙ ap (λ (width : ℕ). entry_of (says_line given.y width) (outcome_of c.draw-drawn.result.answer)) c.width.ensures)
 
 pub line_spec : {M : Type 1} → statement M
 line_spec =
