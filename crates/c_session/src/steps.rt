@@ -11,7 +11,6 @@ ghost use Rattle.c_session.specs.Inner.{put_entry, put_text, or_text};
 
 use c_numbers::{Refused, nothing, refused_by};
 use chip::change::QueueChange;
-use refusals::Answer;
 use session::session::Session;
 use session::step::record_step;
 use session_answers::StepAnswer;
@@ -140,10 +139,9 @@ fn short_of_text(
 ) -> Refused
     ensures { result ≡ or_text (verdict (lent_faults counts store table normal overlay output)) }
 {
-    let allowed = step_check(counts, store, table, normal, overlay, output);
-    match allowed {
-        Answer::Refused(refusal) => refused_by(refusal),
-        Answer::Done => Refused {
+    match step_check(counts, store, table, normal, overlay, output) {
+        Err(refusal) => refused_by(refusal),
+        Ok(()) => Refused {
             number: 5,
             place: 6,
         },
