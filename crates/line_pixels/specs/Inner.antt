@@ -12,7 +12,7 @@ use Rattle.line_colour.specs.declared.entry.WindowEntry.{WindowEntry}
 use Rattle.line_colour.specs.declared.entry.Shown.TheVariants.{MapEntry}
 use Rattle.line_pixels.specs.Cells.{PixelCell, pixel_view}
 use Rattle.line_pixels.specs.Cursor.{cursor_at}
-use Rattle.line_pixels.specs.Colour.{SaidAt, through_gamma, normal_at, plain_at, overlaid, overlay_counts, under_cursor, cursor_shown, colour_of_pixel}
+use Rattle.line_pixels.specs.Colour.{SaidAt, through_gamma, normal_at, plain_at, overlaid, overlay_counts, cursor_shown}
 use Rattle.line_pixels.specs.declared.Screen.{Screen}
 
 -- enough is lent for the plain colour of each pixel before `end`: the entry is said at the depth, the store is whole, and the normal row has those pixels

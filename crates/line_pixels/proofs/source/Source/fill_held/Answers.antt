@@ -1,5 +1,5 @@
 -- The places at either depth are those of the samples.
-use Rattle.std.proofs.Common.{rules, ◌+◌, ◌*◌, ◌/◌, ◌<◌, ◌≤◌, ◌≡◌, ◌^◌, ◌∙◌, length, arith}
+use Rattle.std.proofs.Common.{rules, ◌+◌, ◌/◌, ◌≤◌, ◌≡◌, ◌∙◌, length, arith}
 use Rattle.rules.proofs.Fill.{filled_from}
 use Rattle.line_pixels.specs.SamplePlace.{sample_place}
 use Rattle.line_pixels.proofs.Halves.{held_of, held_in_row, apart_two}
