@@ -23,6 +23,6 @@ pixels_le {depth} {end} {entry} {store} {normal} lent =
     (said_says depth entry lent.said).at_depth
 
 -- a row that has the pixels of a run has those before each of them
-pub row_before : (depth : ℕ) (entry : WindowEntry) (normal : List ℕ) {end before : ℕ} → RowLent depth entry normal end → before ≤ end
+pub row_before : (depth : ℕ) (entry : WindowEntry) (normal : List ℕ) {end : ℕ} → RowLent depth entry normal end → {before : ℕ} → before ≤ end
     → before * (depth / 8) ≤ length normal
 row_before depth entry normal lent le = le_trans (mul-le-mul_right (depth / 8) le) lent.1
