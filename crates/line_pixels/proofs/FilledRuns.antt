@@ -6,6 +6,7 @@ use native.Mathlib.Omega.{arith}
 use native.Mathlib.Nat.{le_refl, add-zero, add-suc, not-suc-le-zero}
 use lib.ListN.{length}
 use Rattle.rules.specs.Lists.{filled, changed}
+use Rattle.rules.proofs.Fill.{filled_from}
 
 -- elements that are changed whatever they were are filled
 filled_by : {A : Type 0} (at : ℕ → A) (from : ℕ) (list : List A) (count : ℕ) → count ≤ length list
@@ -28,3 +29,7 @@ changed_on {A} change x from (a ∷ list) (suc count) = ap {B = List A} (λ r. c
 -- a run whose words are changed by their pixels' numbers, which are counted from x on
 pub changed_from : {A : Type 0} (change : ℕ → A → A) (x : ℕ) (list : List A) (count : ℕ) → changed (λ i. change (x + i)) 0 list count ≡ changed change x list count
 changed_from change x list count = rw add-zero at (changed_on change x 0 list count)
+
+-- a run that is filled by its pixels' numbers, which are counted from x on
+pub filled_on : {A : Type 0} (shows : ℕ → A) (x : ℕ) (list : List A) {after : List A} → after ≡ filled (λ i. shows (x + i)) 0 list (length list) → after ≡ filled shows x list (length list)
+filled_on shows x list is = is ∙ filled_from shows x list (length list)

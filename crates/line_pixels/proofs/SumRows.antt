@@ -1,8 +1,8 @@
 -- Tables of sums, row by row. Assumes nothing.
 use Prim.Native.Nat.{ℕ, ◌+◌, ◌-◌, ◌*◌, ◌/◌, ◌%◌, ◌≤◌, ◌<◌}
-use mathlib.Core.Path.{◌≡◌, refl, ap, ◌∙◌}
-use mathlib.Core.List.{List, [], ◌++◌, append_assoc, append-nil}
-use native.Mathlib.Nat.{zero-add, zero-mul, add-mul, one-mul, mul-le-mul_right}
+use mathlib.Core.Path.{◌≡◌, ap, ◌∙◌}
+use mathlib.Core.List.{List, append_assoc, append-nil}
+use native.Mathlib.Nat.{zero-add, add-mul, one-mul, mul-le-mul_right}
 use native.Mathlib.Omega.{arith}
 use borrow.Rule.Slice.PartMut.{put_mid}
 use lib.Arith.{digits_div, digits_mod}

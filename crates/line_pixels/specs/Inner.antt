@@ -1,7 +1,7 @@
 -- What the functions inside ask of lent memory, and say of a rule that looks at a part of it.
 use Rattle.std.specs.Prelude.{ℕ, ◌+◌, ◌*◌, ◌/◌, ◌%◌, ◌≤◌, ◌<◌, ◌≡◌, Bool, true, false, cond, ◌⊎◌, List, eqb, length, get_or}
 use Rattle.rules.specs.Rule.{Rule, done, value, ◌>>=◌}
-use Rattle.rules.specs.Lists.{filled, changed}
+use Rattle.rules.specs.Lists.{changed}
 use Rattle.words.specs.Field.{bits}
 use Rattle.words.specs.Bytes.{big_endian}
 use Rattle.chip_registers.specs.Store.{store_length, stored}
@@ -12,7 +12,7 @@ use Rattle.line_colour.specs.declared.entry.WindowEntry.{WindowEntry}
 use Rattle.line_colour.specs.declared.entry.Shown.TheVariants.{MapEntry}
 use Rattle.line_pixels.specs.Cells.{PixelCell, pixel_view}
 use Rattle.line_pixels.specs.Cursor.{cursor_at}
-use Rattle.line_pixels.specs.Colour.{SaidAt, through_gamma, normal_at, plain_at, overlaid, overlay_counts, under_cursor, cursor_shown, colour_of_pixel}
+use Rattle.line_pixels.specs.Colour.{SaidAt, through_gamma, overlaid, overlay_counts, cursor_shown}
 use Rattle.line_pixels.specs.declared.Screen.{Screen}
 
 -- enough is lent for the plain colour of each pixel before `end`: the entry is said at the depth, the store is whole, and the normal row has those pixels
@@ -54,16 +54,6 @@ index_in bytes at = bits (big_endian bytes at 2) 0 12
 -- the colour of that index
 abbrev pub indexed_colour : List ℕ → List ℕ → ℕ → ℕ
 indexed_colour store bytes at = stored store (record { block = ColourMap; word = index_in bytes at })
-
--- a run filled with plain colours, whatever the overlay row holds
-abbrev pub FilledPlain : ℕ → WindowEntry → List ℕ → List ℕ → ℕ → ℕ → List ℕ → List ℕ → Type 0
-FilledPlain depth entry store normal x count before after =
-    (overlay : List ℕ) → after ≡ filled (λ p. value (pixel_view store normal overlay) (plain_at depth entry p)) x before count
-
--- a run filled with normal colours, whatever the overlay row holds
-abbrev pub FilledNormal : ℕ → WindowEntry → List ℕ → List ℕ → ℕ → ℕ → List ℕ → List ℕ → Type 0
-FilledNormal depth entry store normal x count before after =
-    (overlay : List ℕ) → after ≡ filled (λ p. value (pixel_view store normal overlay) (normal_at depth entry p)) x before count
 
 -- words gone through gamma, unless they bypass it, whatever the rows hold
 abbrev pub Corrected : List ℕ → Bool → List ℕ → List ℕ → Type 0

@@ -5,7 +5,6 @@ mod bytes;
 mod correction;
 mod cursor;
 pub mod fill;
-mod fours;
 mod held;
 mod index_12;
 mod layers;

@@ -1,9 +1,18 @@
 // Runs of words, each word by a closure that answers the colour at a number.
-ghost use Rattle.std.specs.Prelude.{ℕ, ◌<◌, ◌≡◌, length};
+ghost use Rattle.std.specs.Prelude.{ℕ, ◌+◌, ◌≤◌, ◌<◌, ◌≡◌, length, set};
 ghost use Rattle.rules.specs.Lists.{filled, changed};
 ghost use Rattle.line_pixels.specs.ByClosure.{IsShown, IsChange};
 
-use crate::fours::put_four;
+// Four words, from a place on.
+fn put_four(out: &mut [u32], at: usize, first: u32, second: u32, third: u32, fourth: u32)
+    requires { at + 4 ≤ length out.old }
+    ensures { out.new ≡ set (set (set (set out.old at first) (at + 1) second) (at + 2) third) (at + 3) fourth }
+{
+    out[at] = first;
+    out[at + 1] = second;
+    out[at + 2] = third;
+    out[at + 3] = fourth;
+}
 
 // How a loop takes the words of a run: how many in a turn.
 pub(crate) trait Stepping {

@@ -1,5 +1,5 @@
 -- The colour of an index is the plain colour where it bypasses gamma.
-use Rattle.std.proofs.Common.{rules, ℕ, ◌+◌, ◌≡◌, ◌∙◌}
+use Rattle.std.proofs.Common.{rules, ◌≡◌, ◌∙◌}
 use Rattle.rules.specs.Rule.{value}
 use Rattle.line_pixels.specs.Colour.{plain_at}
 use Rattle.line_pixels.specs.Inner.{indexed_colour}

@@ -1,5 +1,5 @@
 -- The colours that are looked up are those of the samples, through gamma.
-use Rattle.std.proofs.Common.{rules, ℕ, ◌+◌, ◌≡◌, ◌∙◌, get_or}
+use Rattle.std.proofs.Common.{rules, ◌≡◌, ◌∙◌, get_or}
 use mathlib.Core.Logic.{⊎_elim}
 use Rattle.rules.specs.Rule.{value}
 use Rattle.line_formats.specs.Table.{widths_of}

@@ -1,5 +1,5 @@
 -- The sum of a pair and a blue is the plain colour of a pixel.
-use Rattle.std.proofs.Common.{rules, ℕ, ◌+◌, ◌≡◌, ◌∙◌, arith}
+use Rattle.std.proofs.Common.{rules, ◌≡◌, ◌∙◌, arith}
 use Rattle.rules.specs.Rule.{value}
 use Rattle.line_formats.specs.declared.Format.TheVariants.{Rgb555}
 use Rattle.line_pixels.specs.Colour.{plain_at}

@@ -1,5 +1,5 @@
 -- The colour of the bytes that hold a sample is the normal colour of its pixel.
-use Rattle.std.proofs.Common.{rules, ℕ, ◌+◌, ◌≡◌, ◌∙◌, arith}
+use Rattle.std.proofs.Common.{rules, ◌≡◌, ◌∙◌, arith}
 use Rattle.rules.specs.Rule.{value}
 use Rattle.words.specs.Bytes.{big_endian}
 use Rattle.words.specs.Channels.{word_of}

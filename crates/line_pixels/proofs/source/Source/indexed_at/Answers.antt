@@ -1,5 +1,5 @@
 -- The index shows the entry that stands as many behind the first.
-use Rattle.std.proofs.Common.{◌≡◌, ◌+◌, sym, ap, ◌∙◌}
+use Rattle.std.proofs.Common.{◌≡◌, sym, ap, ◌∙◌}
 use native.Mathlib.Nat.{div-one, mod-eq_of_lt}
 use Rattle.words.specs.Field.{bits}
 use Rattle.line_colour.specs.Shown.{shown_of}

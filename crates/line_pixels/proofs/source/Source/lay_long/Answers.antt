@@ -1,5 +1,5 @@
 -- The colours that are looked up are those of the overlay bytes.
-use Rattle.std.proofs.Common.{◌+◌, ◌∙◌, length, get_or, arith}
+use Rattle.std.proofs.Common.{◌+◌, ◌∙◌, length, get_or}
 use Rattle.rules.specs.Rule.{get}
 use Rattle.rules.proofs.Change.{changed_same}
 use Rattle.line_pixels.specs.Cells.{map_entry}

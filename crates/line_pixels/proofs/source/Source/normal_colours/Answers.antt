@@ -1,5 +1,5 @@
 -- A sample of 8 bits shows the entry that stands as many behind the first of its bank.
-use Rattle.std.proofs.Common.{ℕ, ◌+◌, ◌≤◌, ◌<◌, ◌≡◌, ◌∙◌, sym, ap, get_or, arith}
+use Rattle.std.proofs.Common.{ℕ, ◌+◌, ◌<◌, ◌≡◌, ◌∙◌, sym, ap, arith}
 use native.Mathlib.Nat.{div-one, mod-eq_of_lt}
 use lib.Dec.{lit<}
 use Rattle.rules.specs.Rule.{value}
