@@ -117,3 +117,8 @@ module _ (chip : Chip) where
         ap (ran chip) e
         ∙ dots_done (suc (count - 1)) fine
         ∙ ap (λ (after : Chip). (after, ok (Some (signals_of (after_dots (count - 1) chip).0)))) (dots_last (count - 1))
+
+-- one dot is a run of one
+pub one_dot : (chip : Chip) → ran chip 1 ≡ dotted chip
+unfolding ran dotted after_dots last_report
+one_dot chip = refl

@@ -52,7 +52,8 @@ impl State {
         pass
     }
 
-    // What so many dots change.
+    // What so many dots change. In line, so that one dot, which is a run of one, copies the state no more often.
+    #[inline(always)]
     #[tactic(auto, using(crate::proofs::CallCheck::allowed_says, crate::proofs::Runs::dots_unfit, crate::proofs::Runs::dots_none, crate::proofs::Runs::dots_some))]
     pub fn dots_change(self, store: &mut [u32], count: u32) -> ChangeAnswered<Option<Signals>>
         ensures { (((changed_by self result.change, store.new), outcome_of result.answer) ≡ ran (self, store.old) count) × Tells self.queue result.change.queue }
@@ -67,7 +68,12 @@ impl State {
             };
         }
         let before = self.pass(count - 1);
-        self.last_dot(store, before)
+        let signals = self.signals(before.at);
+        let pass = self.one_more(before, signals.blank);
+        ChangeAnswered {
+            change: self.passing(store, pass),
+            answer: Ok(Some(signals)),
+        }
     }
 
     // So many dots.
