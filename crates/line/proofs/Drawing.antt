@@ -112,4 +112,3 @@ module _ (controls : Controls) (screen : Screen) (store table normal overlay : L
         let names : format_of_number (format_of stands) ≡ Some format = rw stored at named in
         let says : decoded stands controls.depth ≡ Some entry = says_by_format stands controls.depth none_undefined names ∙ ap Some (sym (rw stored at is)) in
         run_of controls store table start x found served entry end says inside ends
-

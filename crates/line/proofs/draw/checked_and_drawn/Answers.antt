@@ -1,5 +1,5 @@
 -- `line::draw::checked_and_drawn`: each refusal is the rule's, and where there is none the output has the rule's colours.
-use Rattle.std.proofs.Common.{◌≡◌, List, ℕ, refl, sym, ap, ◌∙◌, length, arith}
+use Rattle.std.proofs.Common.{List, ℕ, refl, sym, ap, ◌∙◌}
 use Rattle.std.proofs.lemmas.Result.{err_from_is_err_and}
 use Rattle.rules.specs.Rule.{ok}
 use Rattle.line_pixels.specs.declared.Screen.{Screen}
