@@ -15,6 +15,7 @@ use Rattle.rules.proofs.Asks.{never_refused}
 use Rattle.rules.proofs.Checked.{verdict_clear, verdict_first, first_verdict, clear_verdict}
 use Rattle.refusals.specs.Refusal.{numbered}
 use Rattle.refusals.specs.declared.Refusal.TheVariants.{NoFrameEntry, NoLineEntry, UndefinedEntry}
+use Rattle.line_colour.specs.declared.entry.WindowEntry.{WindowEntry}
 use Rattle.line_windows.specs.Table.{yend, table_view}
 use Rattle.line_windows.specs.Frame.{frame_entries, line_table_of}
 use Rattle.line_windows.specs.Ids.{line_entries, end_of}
