@@ -77,38 +77,44 @@ pub(crate) fn is_paired(entry: WindowEntry) -> bool
 }
 
 impl Source<'_> {
+    // A plain run in RGB 4-4-4 through gamma.
+    fn fill_444(&self, x: usize, out: &mut [u32])
+        requires { PlainReaches self.now (x + length out.old) × (self.now.entry.bypass ≡ false) × (self.now.entry.format ≡ Format.Rgb444) }
+        ensures { PlainDrawn self.now x out.old out.new }
+    {
+        let mut words = FinalWords {
+            pairs: [0; 256],
+            blues: [0; 16],
+        };
+        // 17 times a value is 68 quarters of it.
+        words.make(self.store, 68);
+        self.fill_held::<FourByFour, 2, _>(x, |normal, at| colour_444(&words, normal, at), out);
+    }
+
+    // A plain run in RGB 5-5-5 through gamma.
+    fn fill_555(&self, x: usize, out: &mut [u32])
+        requires { PlainReaches self.now (x + length out.old) × (self.now.entry.bypass ≡ false) × (self.now.entry.format ≡ Format.Rgb555) }
+        ensures { PlainDrawn self.now x out.old out.new }
+    {
+        let mut words = FinalWords {
+            pairs: [0; 1024],
+            blues: [0; 32],
+        };
+        // 8 times a value and a quarter of it are 33 quarters.
+        words.make(self.store, 33);
+        self.fill_held::<FourByFour, 2, _>(x, |normal, at| colour_555(&words, normal, at), out);
+    }
+
     // A plain run in RGB 4-4-4 or 5-5-5 through gamma.
     pub(crate) fn fill_paired(&self, x: usize, out: &mut [u32])
         requires { PlainReaches self.now (x + length out.old) × (self.now.entry.bypass ≡ false) × ((self.now.entry.format ≡ Format.Rgb444) ⊎ (self.now.entry.format ≡ Format.Rgb555)) }
         ensures { PlainDrawn self.now x out.old out.new }
     {
         match self.entry.format {
-            Format::Rgb444 => {
-                // 17 times a value is 68 quarters of it.
-                let mut words = FinalWords {
-                    pairs: [0; 256],
-                    blues: [0; 16],
-                };
-                words.make(self.store, 68);
-                self.fill_held::<FourByFour, 2, _>(
-                    x,
-                    |normal, at| colour_444(&words, normal, at),
-                    out,
-                );
-            }
+            Format::Rgb444 => self.fill_444(x, out),
             // RGB 5-5-5 is all that is left.
             Format::Rgb555 | Format::Index8 | Format::Index12 | Format::Rgb332 | Format::Rgb888 => {
-                // 8 times a value and a quarter of it are 33 quarters.
-                let mut words = FinalWords {
-                    pairs: [0; 1024],
-                    blues: [0; 32],
-                };
-                words.make(self.store, 33);
-                self.fill_held::<FourByFour, 2, _>(
-                    x,
-                    |normal, at| colour_555(&words, normal, at),
-                    out,
-                );
+                self.fill_555(x, out);
             }
         }
     }
