@@ -1,13 +1,13 @@
 -- Long runs in RGB 4-4-4 and 5-5-5 through gamma: what the two tables have, and why the sum of a pair and a blue is the plain colour of a pixel. Assumes nothing.
-use Prim.Native.Nat.{ℕ, ◌+◌, ◌*◌, ◌/◌, ◌%◌, ◌^◌, ◌≤◌, ◌<◌}
-use mathlib.Core.Path.{◌≡◌, ap, ap₂, ◌∙◌}
+use Prim.Native.Nat.{ℕ, zero, suc, ◌+◌, ◌*◌, ◌/◌, ◌%◌, ◌^◌, ◌≤◌, ◌<◌}
+use mathlib.Core.Path.{◌≡◌, refl, ap, ap₂, ◌∙◌}
 use mathlib.Core.Bool.{false}
 use mathlib.Core.Logic.{inl, inr}
 use mathlib.Core.List.{List}
 use native.Mathlib.Nat.{le_refl, mod-lt, div-lt_iff_lt-mul}
 use native.Mathlib.Omega.{arith}
 use lib.Dec.{lit≤}
-use lib.ListN.{length, get_or}
+use lib.ListN.{length, get_or, replicate, length-replicate}
 use lib.Pow.{pow_pos}
 use Rattle.rules.specs.Rule.{value}
 use Rattle.rules.specs.Lists.{filled}
@@ -87,6 +87,22 @@ words_fit made =
       blues_long = made.blues_long;
       pairs_fit = λ k below. omega (arith, made.in_pairs k below);
       blues_fit = λ v below. omega (arith, made.in_blues v below);
+    }
+
+-- an element of a list of zeros is zero
+zero_at : (count place : ℕ) → get_or (replicate {A = ℕ} count 0) place 0 ≡ 0
+zero_at zero place = refl
+zero_at (suc count) zero = refl
+zero_at (suc count) (suc place) = zero_at count place
+
+-- tables of zeros fit
+pub zeros_fit : (values pairs : ℕ) → pairs ≡ values * values → PairsFit values (replicate pairs 0) (replicate values 0)
+zeros_fit values pairs many =
+    record {
+      pairs_long = length-replicate {A = ℕ} pairs 0 ∙ many;
+      blues_long = length-replicate {A = ℕ} values 0;
+      pairs_fit = λ k below. omega (arith, zero_at pairs k);
+      blues_fit = λ v below. omega (arith, zero_at values v);
     }
 
 -- the colour of a sample whose channels all have one width, through gamma, is the sum of the pair of its red and green and its blue

@@ -21,14 +21,12 @@ struct FinalWords<const VALUES: usize, const PAIRS: usize> {
 
 impl<const VALUES: usize, const PAIRS: usize> FinalWords<VALUES, PAIRS> {
     // Those that the gamma map makes of a format's colours. So many quarters of a value are the value widened.
-    fn of(store: &[u32; STORE_WORDS], quarters: usize) -> Self
-        requires { (1 ≤ VALUES) × (VALUES ≤ 32) × (PAIRS ≡ VALUES * VALUES) × ((v : ℕ) → v < VALUES → quarters * v / 4 < 256) }
-        ensures { PairedBy store.now VALUES quarters result.pairs result.blues }
+    fn make(&mut self, store: &[u32; STORE_WORDS], quarters: usize)
+        requires { (1 ≤ VALUES) × (VALUES ≤ 32) × ((v : ℕ) → v < VALUES → quarters * v / 4 < 256) }
+        ensures { PairedBy store.now VALUES quarters self.new.pairs self.new.blues }
     {
         let mut reds = [0; VALUES];
         let mut greens = [0; VALUES];
-        let mut blues = [0; VALUES];
-        let mut pairs = [0; PAIRS];
         OneByOne::fill(
             |v|
                 requires { quarters * v / 4 < 256 }
@@ -48,10 +46,9 @@ impl<const VALUES: usize, const PAIRS: usize> FinalWords<VALUES, PAIRS> {
                 requires { quarters * v / 4 < 256 }
                 ensures { result ≡ gamma_blue store.entry.now (quarters * v / 4) }
             { gamma_blue(store, quarters * v / 4) },
-            &mut blues,
+            &mut self.blues,
         );
-        sum_rows(&reds, &greens, &mut pairs);
-        FinalWords { pairs, blues }
+        sum_rows(&reds, &greens, &mut self.pairs);
     }
 }
 
@@ -80,30 +77,44 @@ pub(crate) fn is_paired(entry: WindowEntry) -> bool
 }
 
 impl Source<'_> {
+    // A plain run in RGB 4-4-4 through gamma.
+    fn fill_444(&self, x: usize, out: &mut [u32])
+        requires { PlainReaches self.now (x + length out.old) × (self.now.entry.bypass ≡ false) × (self.now.entry.format ≡ Format.Rgb444) }
+        ensures { PlainDrawn self.now x out.old out.new }
+    {
+        let mut words = FinalWords {
+            pairs: [0; 256],
+            blues: [0; 16],
+        };
+        // 17 times a value is 68 quarters of it.
+        words.make(self.store, 68);
+        self.fill_held::<FourByFour, 2, _>(x, |normal, at| colour_444(&words, normal, at), out);
+    }
+
+    // A plain run in RGB 5-5-5 through gamma.
+    fn fill_555(&self, x: usize, out: &mut [u32])
+        requires { PlainReaches self.now (x + length out.old) × (self.now.entry.bypass ≡ false) × (self.now.entry.format ≡ Format.Rgb555) }
+        ensures { PlainDrawn self.now x out.old out.new }
+    {
+        let mut words = FinalWords {
+            pairs: [0; 1024],
+            blues: [0; 32],
+        };
+        // 8 times a value and a quarter of it are 33 quarters.
+        words.make(self.store, 33);
+        self.fill_held::<FourByFour, 2, _>(x, |normal, at| colour_555(&words, normal, at), out);
+    }
+
     // A plain run in RGB 4-4-4 or 5-5-5 through gamma.
     pub(crate) fn fill_paired(&self, x: usize, out: &mut [u32])
         requires { PlainReaches self.now (x + length out.old) × (self.now.entry.bypass ≡ false) × ((self.now.entry.format ≡ Format.Rgb444) ⊎ (self.now.entry.format ≡ Format.Rgb555)) }
         ensures { PlainDrawn self.now x out.old out.new }
     {
         match self.entry.format {
-            Format::Rgb444 => {
-                // 17 times a value is 68 quarters of it.
-                let words = FinalWords::of(self.store, 68);
-                self.fill_held::<FourByFour, 2, _>(
-                    x,
-                    |normal, at| colour_444(&words, normal, at),
-                    out,
-                );
-            }
+            Format::Rgb444 => self.fill_444(x, out),
             // RGB 5-5-5 is all that is left.
             Format::Rgb555 | Format::Index8 | Format::Index12 | Format::Rgb332 | Format::Rgb888 => {
-                // 8 times a value and a quarter of it are 33 quarters.
-                let words = FinalWords::of(self.store, 33);
-                self.fill_held::<FourByFour, 2, _>(
-                    x,
-                    |normal, at| colour_555(&words, normal, at),
-                    out,
-                );
+                self.fill_555(x, out);
             }
         }
     }

@@ -62,8 +62,8 @@ impl Stepping for FourByFour {
             let first = colour(i, under[0]);
             put_four(words, i, first, second, third, fourth);
         }
-        for i in 4 * fours..words.len() {
-            words[i] = colour(i, words[i]);
+        for last in 4 * fours..words.len() {
+            words[last] = colour(last, words[last]);
         }
     }
 }

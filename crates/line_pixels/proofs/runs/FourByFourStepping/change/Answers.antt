@@ -18,8 +18,8 @@ loop-turn-preserved g c =
     (rw (zero-add (i + 2)) (is (i + 2) (get_or words (i + 2) 0) c.colour-third.result (omega arith) c.colour-third.ensures))
     (rw (zero-add (i + 3)) (is (i + 3) (get_or words (i + 3) 0) c.colour-fourth.result (omega arith) c.colour-fourth.ensures)))
 
-pub loop-i-preserved : goal.loop-i-preserved
-loop-i-preserved g c =
+pub loop-last-preserved : goal.loop-last-preserved
+loop-last-preserved g c =
     λ change is.
-    let i = c.loop-i.i in
-    change_here 0 (c.loop-i.invariant change is) (omega arith) (rw (zero-add i) (is i (get_or c.loop-i.words i 0) c.colour.result (omega arith) c.colour.ensures))
+    let i = c.loop-last.last in
+    change_here 0 (c.loop-last.invariant change is) (omega arith) (rw (zero-add i) (is i (get_or c.loop-last.words i 0) c.colour.result (omega arith) c.colour.ensures))

@@ -9,8 +9,8 @@ invariant-loop-turn g l =
     (change : ℕ → ℕ → ℕ) → IsChange (goal.F-post g l.fn.colour) (length l.fn.words) change
     → Changing change 0 (length l.fn.words) l.fn.words l.words (4 * l.turn)
 
--- whatever change says what the closure answers, the words before i have it
-abbrev pub invariant-loop-i : goal.invariant-loop-i
-invariant-loop-i g l =
+-- whatever change says what the closure answers, the words before the last ones have it
+abbrev pub invariant-loop-last : goal.invariant-loop-last
+invariant-loop-last g l =
     (change : ℕ → ℕ → ℕ) → IsChange (goal.F-post g l.fn.colour) (length l.fn.words) change
-    → Changing change 0 (length l.fn.words) l.fn.words l.words l.i
+    → Changing change 0 (length l.fn.words) l.fn.words l.words l.last
