@@ -17,4 +17,5 @@ pub mod PixelShows
 pub mod NormalShows
 pub mod GammaReads
 pub mod Below
+pub mod WholeRuns
 pub mod Unique
