@@ -2,11 +2,12 @@
 use Prim.Native.Nat.{ℕ}
 use mathlib.Core.Path.{◌≡◌, ap, ◌∙◌}
 use mathlib.Core.List.{List}
+use Rattle.chip_timing.specs.declared.Signals.{Signals}
+use Rattle.std.specs.Prelude.{Option}
 use Rattle.rules.specs.Rule.{Outcome}
 use Rattle.rules.specs.Faults.{Numbered}
 use Rattle.chip.specs.Call.{Chip}
 use Rattle.chip.specs.declared.state.State.{State}
-use Rattle.chip.specs.declared.report.Report.{Report}
 use Rattle.c_chip.specs.Calls.{write_answer, dots_answer, dots_in_numbers}
 use Rattle.c_chip.specs.declared.calls.WrittenNumbers.{WrittenNumbers}
 
@@ -18,6 +19,6 @@ write_made {outcome = outcome} {store = store} is made =
     ∙ ap (λ (all : Chip × Outcome Numbered (Unit {0})). (write_answer all.0.0 all.1, all.0.1)) made
 
 -- dots, one or many
-pub dots_made : {next after : State} {outcome : Outcome Numbered Report} {store : List ℕ} {all : Chip × Outcome Numbered Report}
+pub dots_made : {next after : State} {outcome : Outcome Numbered (Option Signals)} {store : List ℕ} {all : Chip × Outcome Numbered (Option Signals)}
     → next ≡ after → ((after, store), outcome) ≡ all → (dots_answer next outcome, store) ≡ dots_in_numbers all
 dots_made {outcome = outcome} {store = store} is made = ap (λ (state : State). (dots_answer state outcome, store)) is ∙ ap dots_in_numbers made

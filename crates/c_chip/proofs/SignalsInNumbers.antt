@@ -1,16 +1,16 @@
 -- What C is told of the signals, in plain numbers of the control words before the dot: 1 where a window holds, 0 where not. Assumes nothing.
 use mathlib.Core.Path.{◌≡◌, refl, ap}
 use mathlib.Core.Bool.{◌||◌}
+use Rattle.std.specs.Prelude.{Some}
 use Rattle.rules.specs.Rule.{ok}
 use Rattle.chip_timing.specs.declared.Signals.{Signals}
 use Rattle.chip.specs.Call.{Chip}
 use Rattle.chip.specs.Dot.{dotted}
-use Rattle.chip.specs.declared.report.Report.TheVariants.{Last}
 use Rattle.chip.proofs.DotInWords.{holds_in, reported_syncs, reported_blank}
 use Rattle.c_numbers.specs.Numbers.{yes_no}
 use Rattle.c_chip.specs.Calls.{dotted_in_numbers}
 
-module _ (chip : Chip) {signals : Signals} (made : (dotted chip).1 ≡ ok (Last signals)) where
+module _ (chip : Chip) {signals : Signals} (made : (dotted chip).1 ≡ ok (Some signals)) where
   -- that a dot was made is 1
   pub told_of_a_dot : (dotted_in_numbers chip).0.signals.reported ≡ 1
   unfolding dotted_in_numbers

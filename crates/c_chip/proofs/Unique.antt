@@ -7,6 +7,7 @@ use Rattle.c_chip.proofs.calls.bulitampaw_read.Reads as read
 use Rattle.c_chip.proofs.calls.bulitampaw_dot.Reads as dot
 use Rattle.c_chip.proofs.calls.bulitampaw_dots.Reads as dots
 use Rattle.c_chip.proofs.calls.bulitampaw_line.Reads as line
+use Rattle.c_chip.proofs.numbers.ReportedFromOptionSignals.from.Reads as reported
 
 -- one state is fresh
 pub fresh_unique : OneAnswer fresh.Post
@@ -31,3 +32,7 @@ dots_unique = by_pair _ (λ k exit. exit.1.0.now) _
 -- a line has one answer and leaves one output
 pub line_unique : OneOutcome (λ k exit. exit.1.1.1.1.1.1.0.now) line.Post
 line_unique = by_pair _ (λ k exit. exit.1.1.1.1.1.1.0.now) _
+
+-- one answer says a report in numbers
+pub reported_unique : OneAnswer reported.Post
+reported_unique = by_equation _ _

@@ -1,5 +1,6 @@
 -- What C is answered by a call on the chip.
-use Rattle.std.specs.Prelude.{ℕ, List}
+use Rattle.chip_timing.specs.declared.Signals.{Signals}
+use Rattle.std.specs.Prelude.{ℕ, List, Option}
 use Rattle.rules.specs.Rule.{Outcome}
 use Rattle.rules.specs.Faults.{Numbered}
 use Rattle.c_numbers.specs.Numbers.{refusal_of}
@@ -9,7 +10,6 @@ use Rattle.chip.specs.Read.{read_back}
 use Rattle.chip.specs.Dot.{dotted}
 use Rattle.chip.specs.Dots.{ran}
 use Rattle.chip.specs.declared.state.State.{State}
-use Rattle.chip.specs.declared.report.Report.{Report}
 use Rattle.line.specs.Cells.{Lent}
 use Rattle.line.specs.Drawn.{drawn}
 use Rattle.line.specs.declared.request.Request.{Request}
@@ -38,11 +38,11 @@ unfoldable pub read_in_numbers : Chip → ℕ → ReadBackNumbers
 read_in_numbers chip address = let all = read_back chip address in read_answer all.0.0 all.1
 
 -- the answer of dots in numbers, one or many: the state after them, why they were refused, and the signals of the last
-abbrev pub dots_answer : State → Outcome Numbered Report → DottedNumbers
+abbrev pub dots_answer : State → Outcome Numbered (Option Signals) → DottedNumbers
 dots_answer state answer = record { state = state; refusal = refusal_of answer; signals = in_numbers (report_of_dots answer) }
 
 -- what dots answer, one or many, and the words of the store after them
-abbrev pub dots_in_numbers : Chip × Outcome Numbered Report → DottedNumbers × List ℕ
+abbrev pub dots_in_numbers : Chip × Outcome Numbered (Option Signals) → DottedNumbers × List ℕ
 dots_in_numbers all = (dots_answer all.0.0 all.1, all.0.1)
 
 -- what a dot answers, and the words of the store after it (CHIP 10.4)

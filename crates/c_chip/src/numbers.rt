@@ -1,14 +1,12 @@
 // The chip's answers in plain numbers.
 ghost use Rattle.std.specs.Prelude.{◌≡◌};
-ghost use Rattle.refusals.specs.Refusal.{answer_outcome};
+ghost use Rattle.refusals.specs.Refusal.{outcome_of};
 ghost use Rattle.c_numbers.specs.Numbers.{refusal_of};
-ghost use Rattle.chip.specs.Read.{read_outcome};
-ghost use Rattle.chip.specs.Report.{dots_outcome};
-ghost use Rattle.c_chip.specs.Reports.{word_read, report_of_dots, in_numbers};
+ghost use Rattle.c_chip.specs.Reports.{in_numbers};
 
 use c_numbers::{Refused, nothing, refused_by, yes_no};
-use chip::report::Report;
-use refusals::Answer;
+use chip_timing::Signals;
+use refusals::Refusal;
 
 // Whether a dot was made, and the signals of the last one, each 1 or 0.
 #[repr(C)]
@@ -24,72 +22,36 @@ pub struct Reported {
     pub blank: u32,
 }
 
-// Why a write or a line was refused, or 0 and 0.
-pub(crate) fn of_answer(answer: Answer) -> Refused
-    ensures { result ≡ refusal_of (answer_outcome answer) }
+// Why a call was refused, or 0 and 0.
+pub(crate) fn refusal_of<A: Drop>(answer: Result<A, Refusal>) -> Refused
+    ensures { result ≡ refusal_of (outcome_of answer) }
 {
     match answer {
-        Answer::Done => nothing(),
-        Answer::Refused(refusal) => refused_by(refusal),
+        Ok(_) => nothing(),
+        Err(refusal) => refused_by(refusal),
     }
 }
 
-// Why a read was refused, or 0 and 0.
-pub(crate) fn of_read(answer: chip::read::ReadAnswer) -> Refused
-    ensures { result ≡ refusal_of (read_outcome answer) }
-{
-    match answer {
-        chip::read::ReadAnswer::Word(_) => nothing(),
-        chip::read::ReadAnswer::Refused(refusal) => refused_by(refusal),
-    }
-}
+impl From<Option<Signals>> for Reported {
+    ghost from_gives = { λ report reported. reported ≡ in_numbers report };
 
-// Why dots were refused, one or many, or 0 and 0.
-pub(crate) fn of_dots(answer: chip::report::DotsAnswer) -> Refused
-    ensures { result ≡ refusal_of (dots_outcome answer) }
-{
-    match answer {
-        chip::report::DotsAnswer::Reported(_) => nothing(),
-        chip::report::DotsAnswer::Refused(refusal) => refused_by(refusal),
-    }
-}
-
-// The word that was read, or 0.
-pub(crate) fn word_read(answer: chip::read::ReadAnswer) -> u32
-    ensures { result ≡ word_read (read_outcome answer) }
-{
-    match answer {
-        chip::read::ReadAnswer::Word(word) => word,
-        chip::read::ReadAnswer::Refused(_) => 0,
-    }
-}
-
-// What dots reported, one or many.
-pub(crate) fn report_of_dots(answer: chip::report::DotsAnswer) -> Report
-    ensures { result ≡ report_of_dots (dots_outcome answer) }
-{
-    match answer {
-        chip::report::DotsAnswer::Reported(report) => report,
-        chip::report::DotsAnswer::Refused(_) => Report::Nothing,
-    }
-}
-
-// A report in numbers.
-pub(crate) fn in_numbers(report: Report) -> Reported
-    ensures { result ≡ in_numbers report }
-{
-    match report {
-        Report::Nothing => Reported {
-            reported: 0,
-            hsync: 0,
-            vsync: 0,
-            blank: 0,
-        },
-        Report::Last(signals) => Reported {
-            reported: 1,
-            hsync: yes_no(signals.hsync),
-            vsync: yes_no(signals.vsync),
-            blank: yes_no(signals.blank),
-        },
+    // What dots report: the signals of the last, if a dot was made.
+    fn from(report: Option<Signals>) -> Self
+        ensures { result ≡ in_numbers report }
+    {
+        match report {
+            None => Self {
+                reported: 0,
+                hsync: 0,
+                vsync: 0,
+                blank: 0,
+            },
+            Some(signals) => Self {
+                reported: 1,
+                hsync: yes_no(signals.hsync),
+                vsync: yes_no(signals.vsync),
+                blank: yes_no(signals.blank),
+            },
+        }
     }
 }
