@@ -140,6 +140,7 @@ pub fn bulitampaw_dots(state: State, store: &mut [u32], count: u32) -> DottedNum
 }
 
 // One drawn line. It changes no state, so the one that came goes back.
+#[tactic(auto, unfolding(crate::specs::Calls::drawn_in_numbers, line::specs::Drawn::drawn))]
 pub fn bulitampaw_line(
     state: State,
     y: u32,
