@@ -67,13 +67,17 @@ returns-in-Is c =
 pub returns-in-More : goal.returns-in-More
 returns-in-More c =
     let a = c.args in
-    rw c.unchanged-in-More.ensures
-    (step_waits (session_with a.state a.counts a.records) (rooms_of a.store.now a.table.now a.normal.now a.overlay.now a.output.now) a.bytes.now a.place a.last (sym c.in_default.ensures)
-    (sym c.read-found.ensures ∙ c.in-More.is), tt)
+    rw c.unchanged-in-More.ensures (
+      step_waits (session_with a.state a.counts a.records) (rooms_of a.store.now a.table.now a.normal.now a.overlay.now a.output.now) a.bytes.now a.place a.last (sym c.in_default.ensures)
+          (sym c.read-found.ensures ∙ c.in-More.is),
+      tt,
+    )
 
 pub returns-in-Refused : goal.returns-in-Refused
 returns-in-Refused c =
     let a = c.args in
-    rw c.unchanged-in-Refused.ensures
-    (step_stops (session_with a.state a.counts a.records) (rooms_of a.store.now a.table.now a.normal.now a.overlay.now a.output.now) a.bytes.now a.place a.last (sym c.in_default.ensures)
-    c.in-Refused.refusal (sym c.read-found.ensures ∙ c.in-Refused.is), tt)
+    rw c.unchanged-in-Refused.ensures (
+      step_stops (session_with a.state a.counts a.records) (rooms_of a.store.now a.table.now a.normal.now a.overlay.now a.output.now) a.bytes.now a.place a.last (sym c.in_default.ensures)
+          c.in-Refused.refusal (sym c.read-found.ensures ∙ c.in-Refused.is),
+      tt,
+    )
