@@ -61,7 +61,9 @@ impl Source<'_> {
     {
         let bits = self.entry.format.widths().bits;
         let first = first_entry(self.entry);
-        OneByOne::fill(|i| self.indexed_at(bits, first, x + i), out);
+        // A copy of its own, of which the loop need not read anything again.
+        let source = *self;
+        OneByOne::fill(|i| source.indexed_at(bits, first, x + i), out);
     }
 
     // A plain run of indices.

@@ -46,7 +46,12 @@ impl Source<'_> {
         requires { x + length out.old ≤ length self.now.overlay.now }
         ensures { OverlayLaid self.now x out.old out.new }
     {
-        OneByOne::change(|i, under| self.overlay_or(self.overlay[x + i], under), out);
+        // A copy of its own, of which the loop need not read anything again.
+        let source = *self;
+        OneByOne::change(
+            |i, under| source.overlay_or(source.overlay[x + i], under),
+            out,
+        );
     }
 
     // Overlay over a long run.
