@@ -24,7 +24,7 @@ use Rattle.line_colour.proofs.Defined.{Says}
 use Rattle.line_pixels.specs.Cells.{pixel_word, pixel_view}
 use Rattle.line_pixels.specs.Colour.{normal_at}
 use Rattle.line_pixels.specs.SamplePlace.{held_by, place_at}
-use Rattle.line_pixels.proofs.Halves.{AllBytes, held_of, sample_in_bytes}
+use Rattle.line_pixels.proofs.Halves.{AllBytes, HeldBy, held_of, sample_in_bytes}
 use Rattle.line_pixels.proofs.LayersCases.{normal_of_colour, shown_rgb}
 
 module _ (low high : ℕ) (below : high < 256) where
@@ -92,15 +92,21 @@ colour_of_low Rgb444 word = low_channels word 12 4 4 4 (lit≤ tt)
 colour_of_low Rgb555 word = low_channels word 15 5 5 5 (lit≤ tt)
 colour_of_low Rgb888 word = low_channels word 24 8 8 8 (lit≤ tt)
 
--- the colour of the bytes that hold a pixel's sample is the normal colour of the pixel
-pub pixel_normal : {depth : ℕ} {entry : WindowEntry} {m : ℕ} {format : Format} (store normal overlay : List ℕ) → Says depth entry → AllBytes normal → held_by entry ≡ m
+-- the colour of bytes that hold a pixel's sample is the normal colour of the pixel
+pub pixel_normal_held : {depth : ℕ} {entry : WindowEntry} {m : ℕ} {format : Format} (store normal overlay : List ℕ) → Says depth entry → AllBytes normal → HeldBy depth entry m
     → entry.format ≡ format → (entry.format ≡ Rgb332) ⊎ (entry.format ≡ Rgb444) ⊎ (entry.format ≡ Rgb555) ⊎ (entry.format ≡ Rgb888) → (x i : ℕ)
     → word_of (colour_in_format format (big_endian normal (place_at depth entry.low m x i) m)) ≡ value (pixel_view store normal overlay) (normal_at depth entry (x + i))
-pixel_normal {depth} {entry} {m} store normal overlay says all held is_format rgb x i =
+pixel_normal_held {depth} {entry} {m} store normal overlay says all held is_format rgb x i =
     let bytes = big_endian normal (place_at depth entry.low m x i) m in
     let sample = sample_of entry (pixel_word depth normal (x + i)) in
     let same : colour_in_format entry.format sample ≡ colour_in_format entry.format bytes =
-    ap (λ (s : ℕ). colour_in_format entry.format s) (sample_in_bytes depth entry normal says all (held_of says held) x i)
+    ap (λ (s : ℕ). colour_in_format entry.format s) (sample_in_bytes depth entry normal says all held x i)
     ∙ colour_of_low entry.format bytes in
     ap (λ (f : Format). word_of (colour_in_format f bytes)) (sym is_format)
     ∙ normal_of_colour (pixel_view store normal overlay) depth entry (x + i) (shown_rgb entry sample rgb) (sym (ap word_of same))
+
+-- so it is for as many bytes as the sample's bits need
+pub pixel_normal : {depth : ℕ} {entry : WindowEntry} {m : ℕ} {format : Format} (store normal overlay : List ℕ) → Says depth entry → AllBytes normal → held_by entry ≡ m
+    → entry.format ≡ format → (entry.format ≡ Rgb332) ⊎ (entry.format ≡ Rgb444) ⊎ (entry.format ≡ Rgb555) ⊎ (entry.format ≡ Rgb888) → (x i : ℕ)
+    → word_of (colour_in_format format (big_endian normal (place_at depth entry.low m x i) m)) ≡ value (pixel_view store normal overlay) (normal_at depth entry (x + i))
+pixel_normal store normal overlay says all held = pixel_normal_held store normal overlay says all (held_of says held)

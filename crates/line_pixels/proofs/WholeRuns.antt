@@ -19,9 +19,9 @@ use Rattle.line_colour.proofs.Defined.{Says}
 use Rattle.line_pixels.specs.Cells.{pixel_view}
 use Rattle.line_pixels.specs.Colour.{through_gamma, shown_colour, normal_at, plain_at}
 use Rattle.line_pixels.specs.Inner.{OverStore, PairedBy, indexed_colour, paired_444, paired_555}
-use Rattle.line_pixels.specs.SamplePlace.{held_by, place_at}
-use Rattle.line_pixels.proofs.Halves.{AllBytes}
-use Rattle.line_pixels.proofs.RgbRuns.{pixel_normal}
+use Rattle.line_pixels.specs.SamplePlace.{place_at}
+use Rattle.line_pixels.proofs.Halves.{AllBytes, HeldBy}
+use Rattle.line_pixels.proofs.RgbRuns.{pixel_normal_held}
 use Rattle.line_pixels.proofs.IndexRuns.{index_plain}
 use Rattle.line_pixels.proofs.Colours.{byte_plain}
 use Rattle.line_pixels.proofs.PairedRuns.{plain_444, plain_555}
@@ -32,13 +32,13 @@ shown_run word shows x each count before ran =
     ran ∙ (filled_same word (λ i. shows (x + i)) 0 before count (λ i low high. each i) ∙ filled_from shows x before count)
 
 module _ {depth : ℕ} {entry : WindowEntry} (store normal : List ℕ) (says : Says depth entry) (all : AllBytes normal) (x count : ℕ) (before : List ℕ) {after : List ℕ} where
-  -- a run whose colours are those of the bytes that hold the samples is the run of normal colours
-  pub run_normal : {m : ℕ} {format : Format} → held_by entry ≡ m → entry.format ≡ format
+  -- a run whose colours are those of bytes that hold the samples is the run of normal colours
+  pub run_normal : {m : ℕ} {format : Format} → HeldBy depth entry m → entry.format ≡ format
       → (entry.format ≡ Rgb332) ⊎ (entry.format ≡ Rgb444) ⊎ (entry.format ≡ Rgb555) ⊎ (entry.format ≡ Rgb888)
       → after ≡ filled (λ i. word_of (colour_in_format format (big_endian normal (place_at depth entry.low m x i) m))) 0 before count
       → (overlay : List ℕ) → after ≡ filled (λ p. value (pixel_view store normal overlay) (normal_at depth entry p)) x before count
   run_normal held is rgb ran overlay =
-      shown_run _ (λ p. value (pixel_view store normal overlay) (normal_at depth entry p)) x (λ i. pixel_normal store normal overlay says all held is rgb x i) count before ran
+      shown_run _ (λ p. value (pixel_view store normal overlay) (normal_at depth entry p)) x (λ i. pixel_normal_held store normal overlay says all held is rgb x i) count before ran
 
   -- a run of 12-bit indices, each shown through gamma or past it as the entry says, is the run of plain colours
   pub run_indexed : entry.format ≡ Index12 → (shown : ℕ → ℕ) → ((overlay : List ℕ) (word : ℕ) → shown word ≡ value (pixel_view store normal overlay) (through_gamma entry.bypass word))
