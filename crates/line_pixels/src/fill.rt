@@ -13,7 +13,7 @@ use crate::lengths::{LAYERED_RUN, PAIRED_RUN, shortest_looked_up};
 use crate::paired::is_paired;
 use crate::runs::{OneByOne, Stepping};
 use crate::source::Source;
-use chip_registers::STORE_WORDS;
+use crate::store::whole;
 use line_colour::entry::WindowEntry;
 use line_formats::Format;
 
@@ -84,7 +84,7 @@ impl Screen {
     pub fn fill(
         self,
         entry: WindowEntry,
-        store: &[u32; STORE_WORDS],
+        store: &[u32],
         normal: &[u8],
         overlay: &[u8],
         x: usize,
@@ -97,7 +97,7 @@ impl Screen {
         let source = Source {
             screen: self,
             entry,
-            store,
+            store: whole(store),
             normal,
             overlay,
         };

@@ -18,7 +18,7 @@ impl Source<'_> {
         requires lent { PlainReaches self.now (x + length out.old) }
         requires held { held_by self.now.entry ≡ BYTES }
         requires callable { (at : ℕ) → at + BYTES ≤ length self.now.normal.now → F.pre colour self.now.normal at }
-        ensures { (shows : ℕ → ℕ) → ((i answer : ℕ) → i < length out.old → F.post colour self.now.normal (sample_place self.now BYTES x i) answer → answer ≡ shows (x + i)) → out.new ≡ filled shows x out.old (length out.old) }
+        ensures { (shows : ℕ → ℕ) → ((i answer : ℕ) → i < length out.old → F.post colour self.now.normal (sample_place self.now BYTES x i) answer → answer ≡ shows i) → out.new ≡ filled shows 0 out.old (length out.old) }
     {
         let normal = self.normal;
         let apart = (self.screen.depth / 8) as usize;

@@ -1,5 +1,5 @@
 -- The tables have the channels of the gamma words that the values pick.
-use Rattle.std.proofs.Common.{rules, ℕ, List, ◌*◌, ◌/◌, ◌≡◌, ◌≤◌, length, arith}
+use Rattle.std.proofs.Common.{rules, ℕ, List, ◌*◌, ◌/◌, ◌≡◌, length, arith}
 use lib.ListN.{replicate, length-replicate}
 use Rattle.line_pixels.specs.Inner.{gamma_red, gamma_green, gamma_blue}
 use Rattle.line_pixels.proofs.PairedRuns.{reds_many, greens_many, reds_fit, greens_fit, words_made, words_fit}

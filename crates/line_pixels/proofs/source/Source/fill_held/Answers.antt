@@ -1,6 +1,5 @@
 -- The places at either depth are those of the samples.
 use Rattle.std.proofs.Common.{rules, ◌+◌, ◌/◌, ◌≤◌, ◌≡◌, length, arith}
-use Rattle.line_pixels.proofs.FilledRuns.{filled_on}
 use Rattle.line_pixels.specs.SamplePlace.{sample_place}
 use Rattle.line_pixels.proofs.Halves.{held_of, held_in_row, apart_two}
 use Rattle.line_pixels.proofs.Rows.{said_says}
@@ -20,9 +19,7 @@ overflow_sub-first-2 g c =
 
 pub returns-then-apart-eq4 : goal.returns-then-apart-eq4
 returns-then-apart-eq4 g c =
-    λ shows is.
-    filled_on shows c.args.x c.args.out.now {after = c.fill.new.words}
-    (c.fill.ensures (λ i. shows (c.args.x + i)) (λ i answer below post. is i answer below (rw c.if-apart-eq4.true (search rules))))
+    λ shows is. c.fill.ensures shows (λ i answer below post. is i answer below (rw c.if-apart-eq4.true (search rules)))
 
 pub fill-requires-else-apart-eq4 : goal.fill-requires-else-apart-eq4
 fill-requires-else-apart-eq4 g c =
@@ -40,5 +37,4 @@ returns g c =
     λ shows is.
     let s = c.args.self.now in
     let apart : s.screen.depth / 8 ≡ 2 = apart_two (said_says s.screen.depth s.entry c.requires.lent.said) c.if-apart-eq4.false in
-    filled_on shows c.args.x c.args.out.now {after = c.fill-else-apart-eq4.new.words}
-    (c.fill-else-apart-eq4.ensures (λ i. shows (c.args.x + i)) (λ i answer below post. is i answer below (rw apart (search rules))))
+    c.fill-else-apart-eq4.ensures shows (λ i answer below post. is i answer below (rw apart (search rules)))
