@@ -2,7 +2,7 @@
 use Prim.Native.Nat.{ℕ}
 use mathlib.Core.Path.{◌≡◌, refl, sym, ap, ◌∙◌}
 use mathlib.Core.Bool.{Bool, true, false, cond, not}
-use borrow.Author.Tests.{eqb-true, eq-eqb}
+use borrow.Author.Tests.{eqb-true, eq-eqb, ne_eqb}
 use lib.Dec.{eqb}
 use Rattle.rules.proofs.Cases.{impossible}
 use Rattle.words.specs.Field.{field}
@@ -12,6 +12,35 @@ use Rattle.std.specs.Prelude.{Option, Some, None}
 use Rattle.line_formats.proofs.FormatListed.{FormatHas}
 use Rattle.line_colour.specs.Entry.{defined_as, with_format, decoded}
 use Rattle.line_colour.specs.declared.entry.WindowEntry.{WindowEntry}
+
+module _ (entry depth : ℕ) where
+  -- an entry with a spare bit set is undefined
+  pub spare_bits : (field entry 12 11 ≡ 0 → ⊥) → None ≡ decoded entry depth
+  unfolding decoded
+  spare_bits set = sym (rw (ne_eqb (field entry 12 11) 0 set))
+
+  module _ (clear : field entry 12 11 ≡ 0) where
+    -- an entry whose number names no format is undefined
+    pub no_format : format_of_number (field entry 3 1) ≡ None → None ≡ decoded entry depth
+    unfolding decoded
+    no_format none = sym (rw (eq-eqb (field entry 12 11) 0 clear, none))
+
+    module _ {format : Format} (named : format_of_number (field entry 3 1) ≡ Some format) where
+      -- an entry whose format is not listed at the depth is undefined
+      pub no_depth : false ≡ has_depth (part_at format depth) → None ≡ decoded entry depth
+      unfolding decoded
+      no_depth none = sym (rw (eq-eqb (field entry 12 11) 0 clear, named, ← none))
+
+      module _ (at_depth : true ≡ has_depth (part_at format depth)) where
+        -- an entry whose format has the depth and not the buffer is undefined
+        pub no_buffer : false ≡ has_buffer (part_at format depth) (field entry 0 0) → None ≡ decoded entry depth
+        unfolding decoded
+        no_buffer none = sym (rw (eq-eqb (field entry 12 11) 0 clear, named, ← at_depth, ← none))
+
+        -- an entry whose format has the depth and the buffer and not the bank is undefined
+        pub no_bank : true ≡ has_buffer (part_at format depth) (field entry 0 0) → false ≡ has_bank format (field entry 8 4) → None ≡ decoded entry depth
+        unfolding decoded
+        no_bank in_buffer none = sym (rw (eq-eqb (field entry 12 11) 0 clear, named, ← at_depth, ← in_buffer, ← none))
 
 -- an entry that passes every test is defined
 pub decoded_defined : (entry depth : ℕ) {format : Format} → field entry 12 11 ≡ 0 → format_of_number (field entry 3 1) ≡ Some format

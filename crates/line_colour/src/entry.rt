@@ -46,7 +46,7 @@ pub fn format_of(entry: u32) -> Option<Format>
 }
 
 // What an entry says at a depth; none where a spare bit is set, or the format, depth, buffer or bank isn't listed.
-#[tactic(auto, unfolding(crate::specs::Entry::decoded))]
+#[tactic(auto, using(crate::proofs::Decode::spare_bits, crate::proofs::Decode::no_format, crate::proofs::Decode::no_depth, crate::proofs::Decode::no_buffer, crate::proofs::Decode::no_bank, crate::proofs::Decode::decoded_defined))]
 pub fn decode(entry: u32, depth: u32) -> Option<WindowEntry>
     ensures { result ≡ decoded entry depth }
 {

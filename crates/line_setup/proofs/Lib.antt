@@ -1,3 +1,4 @@
+pub mod Lengths
 pub mod Fitted
 pub mod KeptFields
 pub mod ControlFields

@@ -50,7 +50,7 @@ impl Setup {
     }
 
     // The lengths, at the lowest place: 5.
-    #[tactic(auto, unfolding(crate::specs::Faults::length_faults))]
+    #[tactic(auto, using(crate::proofs::Lengths::store_wrong, crate::proofs::Lengths::table_wrong, crate::proofs::Lengths::normal_wrong, crate::proofs::Lengths::overlay_bad, crate::proofs::Lengths::output_short, crate::proofs::Lengths::lengths_right))]
     fn lengths_check(self) -> Result<(), Refusal>
         ensures { outcome_of result ≡ verdict (length_faults self) }
     {
@@ -74,7 +74,7 @@ impl Setup {
     }
 
     // 11, 10, 6, 5, in this order.
-    #[tactic(auto, unfolding(crate::specs::Faults::line_faults))]
+    #[tactic(auto, using(crate::proofs::Lengths::state_bad, crate::proofs::Lengths::above, crate::proofs::Lengths::below, crate::proofs::Lengths::by_lengths))]
     pub fn line_check(self) -> Result<(), Refusal>
         ensures { outcome_of result ≡ verdict (line_faults self) }
     {
