@@ -23,7 +23,7 @@ impl State {
     pub fn dot_change(self, store: &mut [u32]) -> ChangeAnswered<Option<Signals>>
         ensures { (((changed_by self result.change, store.new), outcome_of result.answer) ≡ dotted (self, store.old)) × Tells self.queue result.change.queue }
     {
-        self.dots_change(store, 1)
+        self.run_change(store, 1)
     }
 
     // One dot.

@@ -52,10 +52,10 @@ impl State {
         pass
     }
 
-    // What so many dots change. In line, so that one dot, which is a run of one, copies the state no more often.
+    // What a run of dots changes. In line, so that one dot, which is a run of one, copies the state no more often.
     #[inline(always)]
     #[tactic(auto, using(crate::proofs::CallCheck::allowed_says, crate::proofs::Runs::dots_unfit, crate::proofs::Runs::dots_none, crate::proofs::Runs::dots_some))]
-    pub fn dots_change(self, store: &mut [u32], count: u32) -> ChangeAnswered<Option<Signals>>
+    pub(crate) fn run_change(self, store: &mut [u32], count: u32) -> ChangeAnswered<Option<Signals>>
         ensures { (((changed_by self result.change, store.new), outcome_of result.answer) ≡ ran (self, store.old) count) × Tells self.queue result.change.queue }
     {
         if let Err(refusal) = self.call_check(store.len()) {
@@ -74,6 +74,13 @@ impl State {
             change: self.passing(store, pass),
             answer: Ok(Some(signals)),
         }
+    }
+
+    // What so many dots change. A function of its own and not in line, so that where it is called the state is not copied for it.
+    pub fn dots_change(self, store: &mut [u32], count: u32) -> ChangeAnswered<Option<Signals>>
+        ensures { (((changed_by self result.change, store.new), outcome_of result.answer) ≡ ran (self, store.old) count) × Tells self.queue result.change.queue }
+    {
+        self.run_change(store, count)
     }
 
     // So many dots.
